@@ -1,0 +1,5 @@
+pub mod Endings
+pub mod Effects
+pub mod Pixels
+pub mod Start
+pub mod Runs

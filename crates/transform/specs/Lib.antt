@@ -1,0 +1,12 @@
+pub mod Parts
+pub mod Kinds
+pub mod Faults
+pub mod Tests
+pub mod Answers
+pub mod Rules
+pub mod Check
+pub mod Keeps
+pub mod Breach
+pub mod Steps
+pub mod Fork
+pub mod Held
