@@ -81,11 +81,8 @@ pub fn remainder(a: u32, b: u32) -> Result<u32, Stop>
     if b == 0 {
         return Err(Stop::DivisionByZero);
     }
-    Ok(
-        a.cast_signed()
-            .wrapping_rem(b.cast_signed())
-            .cast_unsigned(),
-    )
+    let left = a.cast_signed().wrapping_rem(b.cast_signed());
+    Ok(left.cast_unsigned())
 }
 
 /// Whether the first lies below the second.
