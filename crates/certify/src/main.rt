@@ -1,4 +1,4 @@
-//! Prints the certificate of match of the built-in transform, with the fixed kind, at two budgets.
+//! Prints the certificate of match of the built-in transform, at two budgets: `certify [fixed|float]`, both kinds where none is named.
 mod certificate;
 mod counts;
 mod patch;
@@ -7,14 +7,18 @@ mod words;
 use certificate::Certificate;
 use engine::budget::Budget;
 use number::fixed::FixedKind;
+use number::float::FloatKind;
+use number::kind::NumberKind;
 use patch::PATCHES;
+use std::env;
 use std::error::AnyError;
 use transform::fork;
 
 /// One budget that lets every patch come to its end, and one that does not.
 const BUDGETS: [u16; 2] = [3, 2];
 
-fn certify(rt: &impl Print) -> Result<(), AnyError> {
+// The certificates of one number kind, at each budget.
+fn certify<K: NumberKind>(rt: &impl Print, kind: &str) -> Result<(), AnyError> {
     for steps in BUDGETS {
         let Ok(budget) = Budget::new(steps) else {
             return Err("a budget of 0 steps is refused with 14".into());
@@ -22,14 +26,34 @@ fn certify(rt: &impl Print) -> Result<(), AnyError> {
         let certificate = Certificate {
             transform: fork(),
             name: "the built-in transform",
-            kind: "fixed",
+            kind,
             budget,
         };
-        certificate.print::<FixedKind>(rt, &PATCHES)?;
+        certificate.print::<K>(rt, &PATCHES)?;
     }
     Ok(())
 }
 
+fn certify_named(rt: &impl Print, kind: &str) -> Result<(), AnyError> {
+    match kind {
+        "fixed" => certify::<FixedKind>(rt, kind),
+        "float" => certify::<FloatKind>(rt, kind),
+        _ => Err("the kind should be fixed or float".into()),
+    }
+}
+
+fn run(rt: &LibcRuntime) -> Result<(), AnyError> {
+    let mut args = env::args(rt)?;
+    let _ = args.next();
+    match args.next() {
+        Some(kind) => certify_named(rt, kind.as_str()),
+        None => {
+            certify_named(rt, "fixed")?;
+            certify_named(rt, "float")
+        }
+    }
+}
+
 fn main(rt: LibcRuntime) -> Result<(), AnyError> {
-    rt.report(certify(&rt))
+    rt.report(run(&rt))
 }

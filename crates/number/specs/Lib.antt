@@ -1,3 +1,4 @@
 pub mod Meaning
 pub mod Whole
 pub mod Fixed
+pub mod Float

@@ -1,6 +1,8 @@
-//! Fixed and whole numbers: docs/RULES.md, "Worked examples: numbers".
+//! Fixed, float and whole numbers: docs/RULES.md, "Worked examples: numbers".
 use number::fixed::Fixed;
 use number::fixed::FixedKind;
+use number::float::Float;
+use number::float::FloatKind;
 use number::kind::NumberKind;
 use number::kind::Stop;
 use number::kind::StopDebug;
@@ -55,6 +57,28 @@ fn fixed_comparisons_are_signed() -> Result<(), Fail> {
     check_eq(Fixed::less(0, 0), false)?;
     check_eq(Fixed::equal(5, 5), true)?;
     check_eq(Fixed::NUMBER, 2)
+}
+
+#[test]
+fn float_conversions() -> Result<(), Fail> {
+    check_eq(Float::from_whole(16777216), Ok(0x4b80_0000))?;
+    check_eq(Float::from_whole(16777217), Err(Stop::OutOfRange))?;
+    check_eq(Float::from_whole(-16777217), Err(Stop::OutOfRange))?;
+    check_eq(Float::to_whole(0xc020_0000), Ok(-2))?;
+    check_eq(Float::to_whole(0xcf00_0000), Ok(i32::MIN))?;
+    check_eq(Float::to_whole(0x4f00_0000), Err(Stop::OutOfRange))?;
+    check_eq(Float::to_whole(0x7fc0_0000), Err(Stop::OutOfRange))
+}
+
+#[test]
+fn a_nan_is_admitted_as_one_word_and_equals_none() -> Result<(), Fail> {
+    check_eq(Float::admit(0x7f80_0001), 0x7fc0_0000)?;
+    check_eq(Float::admit(0xffff_ffff), 0x7fc0_0000)?;
+    check_eq(Float::admit(0x8000_0000), 0x8000_0000)?;
+    check_eq(Float::equal(0x7fc0_0000, 0x7fc0_0000), false)?;
+    check_eq(Float::equal(0, 0x8000_0000), true)?;
+    check_eq(Float::divide(0x3f80_0000, 0x8000_0000), Ok(0xff80_0000))?;
+    check_eq(Float::NUMBER, 1)
 }
 
 #[test]
