@@ -4,7 +4,7 @@ ghost use Rattle.transform.specs.Faults.{layer, cause, place, rowCause, rowPla
 ghost use Rattle.transform.specs.declared.fault.Fault.the-variants.{Rows, Records, Table};
 
 /// What is wrong with the rows; the number is the row's.
-#[derive(Clone, Copy, PartialEq, Eq, Debug)]
+#[derive(Clone, Copy, PartialEq, Eq)]
 pub enum RowFault {
     Count,
     Unknown(usize),
@@ -14,7 +14,7 @@ pub enum RowFault {
 }
 
 /// What is wrong with the records; the number is the record's.
-#[derive(Clone, Copy, PartialEq, Eq, Debug)]
+#[derive(Clone, Copy, PartialEq, Eq)]
 pub enum RecordFault {
     Count,
     FirstNotZero,
@@ -26,13 +26,13 @@ pub enum RecordFault {
 }
 
 /// What is wrong with the table.
-#[derive(Clone, Copy, PartialEq, Eq, Debug)]
+#[derive(Clone, Copy, PartialEq, Eq)]
 pub enum TableFault {
     TooLong,
 }
 
 /// What is wrong with a transform.
-#[derive(Clone, Copy, PartialEq, Eq, Debug)]
+#[derive(Clone, Copy, PartialEq, Eq)]
 pub enum Fault {
     Rows(RowFault),
     Records(RecordFault),

@@ -3,7 +3,7 @@ ghost use mathlib.Core.Path.{_≡_};
 ghost use Rattle.transform.specs.Kinds.{kindOf, fieldsOf};
 
 /// What a step does.
-#[derive(Clone, Copy, PartialEq, Eq, Debug)]
+#[derive(Clone, Copy)]
 pub enum RecordKind {
     Literal,
     Copy,

@@ -28,7 +28,7 @@ pub const MOST_WORDS: usize = 4096;
 pub const CHANNELS: u16 = 8;
 
 /// One register: what it holds, what it is for, the channel of an in or out register, and its start word.
-#[derive(Clone, Copy, PartialEq, Eq, Debug)]
+#[derive(Clone, Copy, PartialEq, Eq)]
 pub struct Row {
     pub holds: u16,
     pub role: u16,
@@ -37,7 +37,7 @@ pub struct Row {
 }
 
 /// One step: its kind, the registers that it names, its word, and the place of the record that follows.
-#[derive(Clone, Copy, PartialEq, Eq, Debug)]
+#[derive(Clone, Copy, PartialEq, Eq)]
 pub struct Record {
     pub kind: u16,
     pub to: u16,
