@@ -3,12 +3,13 @@ use Prim.Native.Nat.{ℕ, zero, suc, _+_, _<_, _≤_}
 use mathlib.Core.Path.{_≡_, refl, sym, ap, subst, _∙_}
 use mathlib.Core.Bool.{Bool, true, false, cond}
 use mathlib.Core.Logic.{_⊎_, inl, inr}
-use mathlib.Core.List.{List}
+use mathlib.Core.List.{List, [], _∷_, map}
 use native.Mathlib.Omega.{arith}
 use lib.Dec.{eqb}
 use lib.IntN.{ℤ}
 use lib.ListN.{length, getD}
 use Rattle.std.specs.Options.{isSome, mapped}
+use Rattle.std.specs.shelf.Lists.{All}
 use Rattle.std.specs.declared.option.Option.{Option}
 use Rattle.std.specs.declared.option.Option.the-variants.{Some, None}
 use Rattle.std.specs.declared.result.Result.{Result}
@@ -185,3 +186,8 @@ pub start-sound : (m : Meaning) (t : Accepted) (b : Budget) (uniforms inputs : L
 start-sound m t b uniforms inputs =
     let few = t .«few_records» .0 in
     standing-sound (settingOf m t b uniforms) (startRegisters m (t .rows .now) uniforms inputs) 1 0 (omega arith) (omega arith)
+
+-- so are all pixels at their start
+pub starts-sound : (m : Meaning) (t : Accepted) (b : Budget) (uniforms : List ℕ) (inputs : List (List ℕ)) → All (Sound (settingOf m t b uniforms)) (map (startOf (settingOf m t b uniforms)) inputs)
+starts-sound m t b uniforms [] = tt
+starts-sound m t b uniforms (words ∷ inputs) = (start-sound m t b uniforms words, starts-sound m t b uniforms inputs)

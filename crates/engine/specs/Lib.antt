@@ -3,3 +3,4 @@ pub mod Effects
 pub mod Pixels
 pub mod Start
 pub mod Runs
+pub mod Batches

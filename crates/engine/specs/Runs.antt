@@ -29,9 +29,10 @@ pub record Setting : Type 0 where
 abbrev pub settingOf : Meaning → Accepted → Budget → List ℕ → Setting
 settingOf m t b uniforms = record { meaning = m; rows = t .rows .now; records = t .records .now; table = t .table .now; budget = b .steps; uniforms = uniforms }
 
--- the pixels of a setting as a machine: a pixel has ended once it has an ending, and never takes more steps than the budget
+-- the pixels of a setting as a machine: a pixel stands at its place, has ended once it has an ending, and never takes more steps than the budget
 abbrev pub machine : Setting → Machine Pixel
 machine s = record {
+  place = λ p. p .place;
   ended = λ p. isSome (p .ending);
   step = stepped (s .meaning) (s .rows) (s .records) (s .table) (s .budget);
   left = λ p. s .budget - p .steps;

@@ -1,5 +1,6 @@
-//! One pixel under an accepted transform: its start, its steps and its run to an ending.
-//! The rules stand in docs/RULES.md, "One pixel".
+//! Pixels under an accepted transform: the start of one, its steps and its run to an ending, and up to 64 that run together.
+//! The rules stand in docs/RULES.md, "One pixel" and "Rounds".
+pub mod batch;
 pub mod budget;
 mod effect;
 pub mod ending;

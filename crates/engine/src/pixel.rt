@@ -6,9 +6,16 @@ use crate::ending::Ending;
 use crate::start::start_registers;
 use number::kind::NumberKind;
 use transform::Accepted;
+use transform::Step;
 ghost use mathlib.Core.Path.{_≡_};
+ghost use mathlib.Core.Bool.{false};
+ghost use Prim.Native.Nat.{_<_};
 ghost use lib.ListN.{length};
-ghost use Rattle.engine.specs.Pixels.{endingAt, standing, stepped};
+ghost use Rattle.std.specs.Options.{isSome};
+ghost use Rattle.std.specs.declared.option.Option.the-variants.{Some};
+ghost use Rattle.transform.specs.Steps.{Sound};
+ghost use Rattle.engine.specs.Pixels.{endingAt, standing, taken, stepped};
+ghost use Rattle.engine.specs.Batches.{turned};
 ghost use Rattle.engine.specs.Start.{started};
 ghost use Rattle.engine.specs.Runs.{settingOf, loneRun, EndsRun, Running};
 
@@ -36,7 +43,7 @@ fn ending_at(budget: Budget, place: u16, steps: u16) -> Option<Ending>
 
 impl Pixel {
     // The pixel with these input words, at its start.
-    fn start<K: NumberKind>(
+    pub(crate) fn start<K: NumberKind>(
         transform: &Accepted,
         budget: Budget,
         uniforms: &[u32],
@@ -66,19 +73,44 @@ impl Pixel {
         requires { ⌜ Running (length (now (now transform .records))) (budget .steps) (now self) ⌝ }
         ensures { λ _. ⌜ now (self .exit) ≡ stepped (K·NumberKind .meaning) (now (now (transform .entry) .rows)) (now (now (transform .entry) .records)) (now (now (transform .entry) .table)) (budget .steps) (now (self .entry)) ⌝ }
     {
-        let Some(step) = transform.step_at(self.place) else {
-            return;
-        };
+        if let Some(step) = transform.step_at(self.place) {
+            self.take::<K>(transform, budget, &step);
+        }
+    }
+
+    // Takes a step that has been read: counts it, and puts its word, goes to its place or stops.
+    fn take<K: NumberKind>(&mut self, transform: &Accepted, budget: Budget, step: &Step)
+        requires names { ⌜ Sound (length (now (now transform .rows))) (length (now (now transform .records))) (now step) ⌝ }
+        requires unspent { ⌜ now self .steps < budget .steps ⌝ }
+        ensures { λ _. ⌜ now (self .exit) ≡ taken (K·NumberKind .meaning) (now (now (transform .entry) .table)) (budget .steps) (now (self .entry)) (Some (now (step .entry))) ⌝ }
+    {
         let a = self.registers[step.a as usize];
         let b = self.registers[step.b as usize];
         self.steps += 1;
-        match effect_of::<K>(transform, &step, a, b) {
+        match effect_of::<K>(transform, step, a, b) {
             Ok(Effect::Put(word)) => {
                 self.registers[step.to as usize] = word;
                 self.stand(step.next, budget);
             }
             Ok(Effect::Go(place)) => self.stand(place, budget),
             Err(ending) => self.ending = Some(ending),
+        }
+    }
+
+    // In a round at the place the pixel takes the step there, if it has no ending and stands there.
+    pub(crate) fn turn<K: NumberKind>(
+        &mut self,
+        transform: &Accepted,
+        budget: Budget,
+        place: u16,
+        step: &Step,
+    )
+        requires names { ⌜ Sound (length (now (now transform .rows))) (length (now (now transform .records))) (now step) ⌝ }
+        requires unspent { ⌜ (isSome (now self .ending) ≡ false → now self .steps < budget .steps) ⌝ }
+        ensures { λ _. ⌜ now (self .exit) ≡ turned (K·NumberKind .meaning) (now (now (transform .entry) .table)) (budget .steps) place (now (step .entry)) (now (self .entry)) ⌝ }
+    {
+        if self.ending.is_none() && self.place == place {
+            self.take::<K>(transform, budget, step);
         }
     }
 }

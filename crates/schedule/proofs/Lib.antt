@@ -1,1 +1,4 @@
 pub mod LoneRuns
+pub mod Lowest
+pub mod Rounds
+pub mod Laws

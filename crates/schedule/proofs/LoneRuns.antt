@@ -1,17 +1,22 @@
 -- The laws of a run by itself, for any machine whose steps bring the steps that are left down.
-use Prim.Native.Nat.{ℕ, zero, suc, _<_, _≤_}
-use mathlib.Core.Path.{_≡_, refl, sym, ap, subst, _∙_}
-use mathlib.Core.Bool.{Bool, true, false, cond}
-use mathlib.Core.Logic.{_⊎_, inl, inr}
+use Prim.Native.Nat.{ℕ, zero, suc, _≤_}
+use mathlib.Core.Path.{_≡_, refl, sym, subst, _∙_}
+use mathlib.Core.Bool.{true, false}
+use mathlib.Core.Logic.{inl, inr}
 use native.Mathlib.Omega.{arith}
 use Rattle.std.proofs.shelf.Tests.{cases-bool, cond-true, cond-false}
-use Rattle.schedule.specs.Machine.{Machine, Ends, Reaches, after, lone}
+use Rattle.schedule.specs.Machine.{Machine, Ends, Reaches, after, lone, stepsIn}
 
 module _ {S : Type 0} (m : Machine S) where
   -- a state that has ended stays
   pub after-ended : (n : ℕ) (s : S) → m .ended s ≡ true → after m n s ≡ s
   after-ended zero s e = refl
   after-ended (suc n) s e = cond-true (m .ended s) s (after m n (m .step s)) e
+
+  -- and takes no step
+  pub steps-ended : (n : ℕ) (s : S) → m .ended s ≡ true → stepsIn m n s ≡ 0
+  steps-ended zero s e = refl
+  steps-ended (suc n) s e = cond-true (m .ended s) 0 (suc (stepsIn m n (m .step s))) e
 
   -- an end that is reached within n steps is the state after n steps
   pub after-reached : (k : ℕ) (s t : S) → Reaches m s k t → (n : ℕ) → k ≤ n → after m n s ≡ t
@@ -57,3 +62,19 @@ module _ {S : Type 0} (m : Machine S) where
     lone-step s g e =
         let r = lone-ends (m .step s) (law .kept s g e) in
         sym (lone-reached (suc (r .0)) s (lone m (m .step s)) g (e, r .1))
+
+    -- the end lies as many steps off as are taken, of any number that is not below what is left
+    pub counted-in : (n : ℕ) (s : S) → Sound s → m .left s ≤ n → Reaches m s (stepsIn m n s) (after m n s)
+    counted-in zero s g l =
+        elim (cases-bool (m .ended s)) [
+          | inl e ↦ (e, refl)
+          | inr e ↦ let f = law .falls s g e in absurd (omega arith)
+        ]
+    counted-in (suc n) s g l =
+        elim (cases-bool (m .ended s)) [
+          | inl e ↦ rw e (e, refl)
+          | inr e ↦
+              let f = law .falls s g e in
+              let ih = counted-in n (m .step s) (law .kept s g e) (omega arith) in
+              rw e (e, ih)
+        ]

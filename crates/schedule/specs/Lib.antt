@@ -1,1 +1,3 @@
 pub mod Machine
+pub mod Rounds
+pub mod Laws

@@ -3,8 +3,9 @@ use Prim.Native.Nat.{ℕ, zero, suc, _<_}
 use mathlib.Core.Path.{_≡_}
 use mathlib.Core.Bool.{Bool, true, false, cond}
 
--- a state has ended or not and has at most so many steps left; `step` is for one that has not ended
+-- a state stands at a place, has ended or not and has at most so many steps left; `step` is for one that has not ended
 pub record Machine (S : Type 0) : Type 0 where
+  pub place : S → ℕ
   pub ended : S → Bool
   pub step : S → S
   pub left : S → ℕ
@@ -27,3 +28,12 @@ after m (suc n) s = cond (m .ended s) s (after m n (m .step s))
 -- the end of a state's run by itself: no run is longer than the steps that are left
 abbrev pub lone : {S : Type 0} → Machine S → S → S
 lone m s = after m (m .left s) s
+
+-- how many steps are taken, of n at most
+abbrev pub stepsIn : {S : Type 0} → Machine S → ℕ → S → ℕ
+stepsIn m zero s = 0
+stepsIn m (suc n) s = cond (m .ended s) 0 (suc (stepsIn m n (m .step s)))
+
+-- how many steps a state's run by itself takes
+abbrev pub steps : {S : Type 0} → Machine S → S → ℕ
+steps m s = stepsIn m (m .left s) s
