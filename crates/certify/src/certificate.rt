@@ -1,15 +1,19 @@
-//! A certificate of match: a transform with its settings, and what it gives for each patch.
+//! A certificate of match: a transform with its settings, and what it gives for each patch, alone and in company.
 use crate::counts::Counts;
 use crate::counts::NAMES;
 use crate::counts::ending_name;
 use crate::patch::Patch;
+use crate::sheet::BATCH;
+use crate::sheet::Sheet;
 use crate::words::Word;
 use crate::words::WordDisplay;
+use call::mark::Mark;
+use call::mark::MarkPartialEq;
+use call::open::Open;
 use engine::budget::Budget;
 use engine::ending::Ending;
-use engine::pixel::Pixel;
-use engine::pixel::run_alone;
 use number::kind::NumberKind;
+use std::error::AnyError;
 use std::io;
 use transform::Accepted;
 
@@ -23,24 +27,44 @@ pub struct Certificate<'a> {
 }
 
 impl Certificate<'_> {
-    /// Runs the patches one by one and prints what each gives.
-    pub fn print<K: NumberKind>(&self, rt: &impl Print, patches: &[Patch]) -> io::Result<()> {
+    /// Runs the patches one by one and prints what each gives; then runs them as one picture and prints what differs.
+    pub fn print<K: NumberKind>(
+        &self,
+        rt: &LibcRuntime,
+        patches: &[Patch],
+    ) -> Result<(), AnyError> {
         self.print_heading::<K>(rt)?;
         self.print_transform(rt)?;
         self.print_settings(rt)?;
-        let mut counts = Counts::new();
-        println!(
-            rt,
-            "patch      input      out        ending               place  steps"
-        )?;
-        for patch in patches {
-            let pixel = run_alone::<K>(&self.transform, self.budget, &[], &patch.inputs);
-            self.print_patch(rt, patch, &pixel)?;
-            if let Some(ending) = pixel.ending {
-                counts.note(ending);
+        let mut alone = Sheet::new(rt.alloc(), patches)?;
+        let mut together = Sheet::new(rt.alloc(), patches)?;
+        self.run_sheet::<K>(rt, &mut alone, 1, false)?;
+        self.print_patches(rt, patches, &alone)?;
+        self.run_sheet::<K>(rt, &mut together, BATCH, true)?;
+        self.print_company(rt, patches.len(), &alone, &together)?;
+        Ok(())
+    }
+
+    // Runs a call over the sheet, in batches of at most so many patches; prints each batch's rounds where asked.
+    fn run_sheet<K: NumberKind>(
+        &self,
+        rt: &impl Print,
+        sheet: &mut Sheet,
+        most: usize,
+        tell: bool,
+    ) -> Result<(), AnyError> {
+        let mut call = Open::new(self.transform, self.budget).arm();
+        for i in 0..sheet.len() {
+            if i % most.max(1) == 0 {
+                let Ok(rounds) = sheet.run::<K>(&mut call, i, most) else {
+                    return Err("a run was refused".into());
+                };
+                if tell {
+                    println!(rt, "company    batch from patch {i}: {rounds} rounds")?;
+                }
             }
         }
-        print_counts(rt, &counts)
+        Ok(())
     }
 
     fn print_heading<K: NumberKind>(&self, rt: &impl Print) -> io::Result<()> {
@@ -99,30 +123,37 @@ impl Certificate<'_> {
         }
     }
 
-    fn print_patch(&self, rt: &impl Print, patch: &Patch, pixel: &Pixel) -> io::Result<()> {
-        let name = patch.name;
-        print!(rt, "{name:<10}")?;
-        for word in patch.inputs {
-            let word = Word(word);
-            print!(rt, " {word}")?;
+    fn print_patches(&self, rt: &impl Print, patches: &[Patch], sheet: &Sheet) -> io::Result<()> {
+        let mut counts = Counts::new();
+        println!(
+            rt,
+            "patch      input      out        ending               place  steps"
+        )?;
+        for (i, patch) in patches.iter().enumerate() {
+            if let Some(mark) = sheet.mark(i) {
+                print_patch(rt, patch)?;
+                self.print_out_words(rt, sheet, i, mark)?;
+                print_mark(rt, mark)?;
+                counts.note(mark.ending);
+            }
         }
-        self.print_out_words(rt, pixel)?;
-        if let Some(ending) = pixel.ending {
-            let number = ending.number();
-            let name = ending_name(ending);
-            print!(rt, "  {number} {name:<17}")?;
-        }
-        let (place, steps) = (pixel.place, pixel.steps);
-        println!(rt, "  {place:>5}  {steps:>5}")
+        print_counts(rt, &counts)
     }
 
-    // The words of the out registers, or a dash for each where the pixel is not done.
-    fn print_out_words(&self, rt: &impl Print, pixel: &Pixel) -> io::Result<()> {
+    // The out words of a patch, or a dash for each where it is not done.
+    fn print_out_words(
+        &self,
+        rt: &impl Print,
+        sheet: &Sheet,
+        index: usize,
+        mark: Mark,
+    ) -> io::Result<()> {
         for i in 0..self.transform.row_count() as u16 {
-            if self.transform.row_at(i).is_out() {
-                match pixel.ending {
-                    Some(Ending::Done) => {
-                        let word = Word(pixel.registers[i as usize]);
+            let row = self.transform.row_at(i);
+            if row.is_out() {
+                match (mark.ending, sheet.word(index, row.channel as usize)) {
+                    (Ending::Done, Some(word)) => {
+                        let word = Word(word);
                         print!(rt, "  {word}")?;
                     }
                     _ => print!(rt, "  -        ")?,
@@ -131,6 +162,45 @@ impl Certificate<'_> {
         }
         Ok(())
     }
+
+    // How many patches have in company another mark or another out word than alone.
+    fn print_company(
+        &self,
+        rt: &impl Print,
+        count: usize,
+        alone: &Sheet,
+        together: &Sheet,
+    ) -> io::Result<()> {
+        let mut differ: usize = 0;
+        for i in 0..count {
+            let same = alone.mark(i) == together.mark(i) && alone.word(i, 0) == together.word(i, 0);
+            if !same {
+                differ = differ.saturating_add(1);
+            }
+        }
+        println!(
+            rt,
+            "company    {differ} of {count} patches differ from their run alone"
+        )?;
+        println!(rt, "")
+    }
+}
+
+fn print_patch(rt: &impl Print, patch: &Patch) -> io::Result<()> {
+    let name = patch.name;
+    print!(rt, "{name:<10}")?;
+    for word in patch.inputs {
+        let word = Word(word);
+        print!(rt, " {word}")?;
+    }
+    Ok(())
+}
+
+fn print_mark(rt: &impl Print, mark: Mark) -> io::Result<()> {
+    let number = mark.ending.number();
+    let name = ending_name(mark.ending);
+    let (place, steps) = (mark.place, mark.steps);
+    println!(rt, "  {number} {name:<17}  {place:>5}  {steps:>5}")
 }
 
 fn print_counts(rt: &impl Print, counts: &Counts) -> io::Result<()> {
@@ -140,6 +210,5 @@ fn print_counts(rt: &impl Print, counts: &Counts) -> io::Result<()> {
         let mark = if number == 0 { "" } else { "," };
         print!(rt, "{mark} {count} {name}")?;
     }
-    println!(rt, "")?;
     println!(rt, "")
 }

@@ -2,6 +2,7 @@
 mod certificate;
 mod counts;
 mod patch;
+mod sheet;
 mod words;
 
 use certificate::Certificate;
@@ -18,7 +19,7 @@ use transform::fork;
 const BUDGETS: [u16; 2] = [3, 2];
 
 // The certificates of one number kind, at each budget.
-fn certify<K: NumberKind>(rt: &impl Print, kind: &str) -> Result<(), AnyError> {
+fn certify<K: NumberKind>(rt: &LibcRuntime, kind: &str) -> Result<(), AnyError> {
     for steps in BUDGETS {
         let Ok(budget) = Budget::new(steps) else {
             return Err("a budget of 0 steps is refused with 14".into());
@@ -34,7 +35,7 @@ fn certify<K: NumberKind>(rt: &impl Print, kind: &str) -> Result<(), AnyError> {
     Ok(())
 }
 
-fn certify_named(rt: &impl Print, kind: &str) -> Result<(), AnyError> {
+fn certify_named(rt: &LibcRuntime, kind: &str) -> Result<(), AnyError> {
     match kind {
         "fixed" => certify::<FixedKind>(rt, kind),
         "float" => certify::<FloatKind>(rt, kind),

@@ -1,0 +1,6 @@
+pub mod Refusals
+pub mod Settings
+pub mod Tallies
+pub mod Requests
+pub mod Frames
+pub mod Events
