@@ -1,5 +1,7 @@
 //! One use of an accepted transform: a call is open while it is set up, then armed, and then runs on frames.
 //! The rules stand in docs/RULES.md, "Calls and their states".
+#![tactic(auto)]
+
 pub mod armed;
 mod inputs;
 pub mod mark;

@@ -1,4 +1,6 @@
 //! Tests of calls: what set and run refuse, and runs of small transforms.
+#![tactic(auto)]
+
 use call::armed::Armed;
 use call::mark::{Answer, Mark};
 use call::open::Open;

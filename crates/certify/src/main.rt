@@ -1,4 +1,6 @@
 //! Prints the certificate of match of the built-in transform, at two budgets: `certify [fixed|float]`, both kinds where none is named.
+#![tactic(auto)]
+
 mod certificate;
 mod counts;
 mod patch;

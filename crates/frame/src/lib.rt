@@ -1,5 +1,7 @@
 //! Pictures: a pixel count, a channel count and a word for each pixel and channel.
 //! The rules stand in docs/RULES.md, Frames.
+#![tactic(auto)]
+
 pub mod field;
 mod limits;
 pub mod packed;

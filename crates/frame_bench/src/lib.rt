@@ -1,4 +1,6 @@
 //! The loops that tools/frame_bench measures: every sample of a frame read or written, many times.
+#![tactic(auto)]
+
 use frame::field::Field;
 use frame::packed::Packed;
 use frame::planar::Planar;

@@ -1,4 +1,6 @@
 //! Tests of the frames: sizes at each limit, the corners, and what a put leaves alone.
+#![tactic(auto)]
+
 use frame::field::Field;
 use frame::planar::Planar;
 use frame::readable::Readable;

@@ -1,5 +1,7 @@
 //! A transform is a list of rows (its registers), a list of records (its steps) and a table of words.
 //! It is checked once: `check` fills an `Accepted` transform, whose reads then need no test.
+#![tactic(auto)]
+
 pub mod accepted;
 pub mod fault;
 pub mod kind;

@@ -1,4 +1,6 @@
 //! Runs the cases on standard input through the number kinds, prints those that differ, and counts.
+#![tactic(auto)]
+
 mod answer;
 mod case;
 

@@ -1,4 +1,6 @@
 //! The worked examples of docs/RULES.md, and one example of every cause of a fault and every kind of record, as tests.
+#![tactic(auto)]
+
 #[cfg(test)]
 mod batches;
 #[cfg(test)]
