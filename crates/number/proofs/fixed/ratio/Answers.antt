@@ -2,8 +2,8 @@ use Rattle.std.proofs.Common.{pos, refl, rules}
 use Rattle.number.proofs.Counts.{passed, scaled_small, quotient_is, quotient_fits}
 use Rattle.number.proofs.fixed.ratio.Goals as goal
 
-pub nonzero-div-result : goal.nonzero-div-result
-nonzero-div-result c =
+pub nonzero_div-result : goal.nonzero_div-result
+nonzero_div-result c =
     let a = c.args.a in
     let b = c.args.b in (
       search rules,

@@ -2,8 +2,8 @@ use Rattle.std.proofs.Common.{◌*◌, ◌≤◌, length, vec_items, vec_len, sy
 use Rattle.frame.proofs.Planes.{place_fits, plane_inside, planes_after_put, words_after_put, planes_fit}
 use Rattle.frame.proofs.planar.PlanarWritable.put.Goals as goal
 
-pub index-mut-requires : goal.index-mut-requires
-index-mut-requires c =
+pub index_mut-requires : goal.index_mut-requires
+index_mut-requires c =
     let s = c.args.self.now in
     place_fits s.pixels s.channels c.args.pixel c.args.channel _ _ c.in-Some.ensures (planes_fit (vec_len s.words) _ _ s.size)
 

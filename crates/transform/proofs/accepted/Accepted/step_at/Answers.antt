@@ -12,9 +12,9 @@ returns-in-Some c =
     let t = c.args.self.now in
     let some : 0 < c.args.place = omega arith in
     let at = record_at t.records.now c.args.place in
-    let read = c.record-at-c.ensures in
+    let read = c.record_at-c.ensures in
     let known : kind_of at.kind ≡ Some c.in-Some.kind = sym (ap (λ r. kind_of r.kind) read) ∙ sym c.in-Some.ensures in
-    let made : step_of t.rows.now c.in-Some.kind at ≡ c.step-of.result = sym (c.step-of.ensures ∙ ap (step_of t.rows.now c.in-Some.kind) read) in
+    let made : step_of t.rows.now c.in-Some.kind at ≡ c.step_of.result = sym (c.step_of.ensures ∙ ap (step_of t.rows.now c.in-Some.kind) read) in
     record {
       step = sym (step_at_later t.rows.now t.records.now c.args.place some ∙ ap (option_map (λ k. step_of t.rows.now k at)) known ∙ ap Some made);
       found = λ _ _. refl;
@@ -26,7 +26,7 @@ returns-in-None c =
     let t = c.args.self.now in
     let some : 0 < c.args.place = omega arith in
     let at = record_at t.records.now c.args.place in
-    let none : kind_of at.kind ≡ None = sym (ap (λ r. kind_of r.kind) c.record-at-c.ensures) ∙ sym c.in-None.ensures in
+    let none : kind_of at.kind ≡ None = sym (ap (λ r. kind_of r.kind) c.record_at-c.ensures) ∙ sym c.in-None.ensures in
     record {
       step = sym (step_at_later t.rows.now t.records.now c.args.place some ∙ ap (option_map (λ k. step_of t.rows.now k at)) none);
       found = λ o l. sym (ap is_some none) ∙ (kept t.rows.now t.records.now t.table.now t.accepted).kinds_known c.args.place o l;

@@ -5,21 +5,21 @@ use Rattle.transform.specs.declared.fault.Fault.{Fault}
 use Rattle.transform.proofs.Kept.{accepts, judged}
 use Rattle.transform.proofs.accepted.check.judge.Goals as goal
 
-pub returns-in-err-check-rows : goal.returns-in-err-check-rows
-returns-in-err-check-rows c =
-    let r = c.from-residual.result in
+pub returns-in_err-check_rows : goal.returns-in_err-check_rows
+returns-in_err-check_rows c =
+    let r = c.from_residual.result in
     let e : r ≡ checked c.args.rows.now c.args.records.now c.args.table.now = search rules in
     record { answer = e; judges = judged _ _ _ r e; exactly = accepts _ _ _ r e }
 
-pub returns-in-err-check-records : goal.returns-in-err-check-records
-returns-in-err-check-records c =
-    let r = c.from-residual-in-err-check-records.result in
+pub returns-in_err-check_records : goal.returns-in_err-check_records
+returns-in_err-check_records c =
+    let r = c.from_residual-in_err-check_records.result in
     let e : r ≡ checked c.args.rows.now c.args.records.now c.args.table.now = search rules in
     record { answer = e; judges = judged _ _ _ r e; exactly = accepts _ _ _ r e }
 
-pub returns-in-err-check-table : goal.returns-in-err-check-table
-returns-in-err-check-table c =
-    let r = c.from-residual-in-err-check-table.result in
+pub returns-in_err-check_table : goal.returns-in_err-check_table
+returns-in_err-check_table c =
+    let r = c.from_residual-in_err-check_table.result in
     let e : r ≡ checked c.args.rows.now c.args.records.now c.args.table.now = search rules in
     record { answer = e; judges = judged _ _ _ r e; exactly = accepts _ _ _ r e }
 
