@@ -9,15 +9,15 @@ use Rattle.engine.proofs.Ends.{accepted_fit, pixels-end}
 use Rattle.engine.proofs.Batches.{lowest_here, total_left}
 use Rattle.engine.proofs.batch.run_rounds.Goals as goal
 
-pub run-round-low-requires : goal.run-round-low-requires
-run-round-low-requires g c =
+pub run_round-low-requires : goal.run_round-low-requires
+run_round-low-requires g c =
     let s = setting_of g.K.NumberKind.meaning c.args.transform.now c.args.budget [] in
     let inv = c.loop-low.invariant in
     let h = lowest_here s c.loop-low.pixels c.in-Some.place inv.0 (sym inv.1 ∙ c.in-Some.is) in
     record { placed = h.0; here = h.1; sound = inv.0 }
 
-pub overflow-add-count : goal.overflow-add-count
-overflow-add-count g c =
+pub overflow_add-count : goal.overflow_add-count
+overflow_add-count g c =
     let s = setting_of g.K.NumberKind.meaning c.args.transform.now c.args.budget [] in
     let law = pixels-end s (accepted_fit c.args.transform.now) in
     let xs = c.args.pixels.now in
@@ -36,7 +36,7 @@ loop-low-smaller g c =
     let law = pixels-end s (accepted_fit c.args.transform.now) in
     let inv = c.loop-low.invariant in
     let one = rounds_step (machine s) law c.in-Some.place c.loop-low.pixels inv.0 (sym inv.1 ∙ c.in-Some.is) in
-    let next = ap (rounds (machine s)) c.run-round-low.ensures.after in
+    let next = ap (rounds (machine s)) c.run_round-low.ensures.after in
     omega arith
 
 pub loop-low-preserved : goal.loop-low-preserved
@@ -46,12 +46,12 @@ loop-low-preserved g c =
     let inv = c.loop-low.invariant in
     let place = c.in-Some.place in
     let ys = c.loop-low.pixels in
-    let e = c.run-round-low.ensures.after in
+    let e = c.run_round-low.ensures.after in
     let one = rounds_step (machine s) law place ys inv.0 (sym inv.1 ∙ c.in-Some.is) in
     let next = ap (rounds (machine s)) e in
     let counted = inv.3 in (
       subst (All (Sound s)) (sym e) (sound_round (machine s) law place ys inv.0),
-      c.run-round-low.ensures.next,
+      c.run_round-low.ensures.next,
       ap (map (lone (machine s))) e ∙ lone_round (machine s) law place ys inv.0 ∙ inv.2,
       omega arith,
     )
@@ -62,7 +62,7 @@ returns g c =
     let law = pixels-end s (accepted_fit c.args.transform.now) in
     let inv = c.loop-low.invariant in
     let ys = c.loop-low.pixels in
-    let none : lowest (machine s) ys ≡ None = sym inv.1 ∙ c.in-default.is in
+    let none : lowest (machine s) ys ≡ None = sym inv.1 ∙ c.in_default.is in
     let zero = rounds_none (machine s) law ys inv.0 none in
     let counted = inv.3 in
     record { ends = lone-none (machine s) law ys none ∙ inv.2; count = omega arith }

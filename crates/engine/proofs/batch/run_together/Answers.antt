@@ -10,15 +10,15 @@ use Rattle.engine.proofs.Ends.{accepted_fit, start_sound, starts_sound, pixels-e
 use Rattle.engine.proofs.Batches.{take_counted, length-counted, drop-counted}
 use Rattle.engine.proofs.batch.run_together.Goals as goal
 
-pub run-rounds-requires : goal.run-rounds-requires
-run-rounds-requires g c =
+pub run_rounds-requires : goal.run_rounds-requires
+run_rounds-requires g c =
     let s = setting_of g.K.NumberKind.meaning c.args.transform.now c.args.budget c.args.uniforms.now in
     let full : length c.args.batch.now.pixels ≡ 64 = search rules in
     let inputs = c.args.inputs.now in
     let n = c.min-count.result in
     let counts = c.min-count.ensures in
     let k = length-counted inputs n counts c.args.batch.now.pixels full in
-    let start = c.start-all.ensures ∙ ap (λ i. map (start_of s) (take i inputs)) k in
+    let start = c.start_all.ensures ∙ ap (λ i. map (start_of s) (take i inputs)) k in
     let long = ap length start ∙ length-map (take n inputs) (start_of s) ∙ length-take-le n inputs (omega arith) in
     record {
       few = omega arith;
@@ -33,12 +33,12 @@ returns g c =
     let inputs = c.args.inputs.now in
     let n = c.min-count.result in
     let counts = c.min-count.ensures in
-    let start : c.start-all.new.pixels ≡ map (start_of s) (take 64 inputs) =
-    c.start-all.ensures ∙ ap (λ i. map (start_of s) (take i inputs)) (length-counted inputs n counts ps full) ∙ ap (map (start_of s)) (take_counted inputs n counts) in
-    let end = c.run-rounds.ensures.ends ∙ ap (map (lone (machine s))) start ∙ map-map (lone (machine s)) (start_of s) (take 64 inputs) in
+    let start : c.start_all.new.pixels ≡ map (start_of s) (take 64 inputs) =
+    c.start_all.ensures ∙ ap (λ i. map (start_of s) (take i inputs)) (length-counted inputs n counts ps full) ∙ ap (map (start_of s)) (take_counted inputs n counts) in
+    let end = c.run_rounds.ensures.ends ∙ ap (map (lone (machine s))) start ∙ map-map (lone (machine s)) (start_of s) (take 64 inputs) in
     record {
       ends = λ j. end j ++ drop-counted inputs n counts ps full j;
-      count = c.run-rounds.ensures.count ∙ ap (rounds (machine s)) start;
+      count = c.run_rounds.ensures.count ∙ ap (rounds (machine s)) start;
       sound = λ words. start_sound g.K.NumberKind.meaning c.args.transform.now c.args.budget c.args.uniforms.now words;
       laws = laws (machine s) (pixels-end s (accepted_fit c.args.transform.now));
     }

@@ -15,8 +15,8 @@ loop-i-preserved g c =
     let i = c.loop-i.i in
     let full = c.loop-i.invariant.0 in
     let here : i < length xs = omega arith in (
-      length-set xs i c.start-word.result ∙ full,
-      listed_more (λ j. word (row_at c.args.transform.now.rows.now j) j) xs i c.start-word.result here (c.start-word.ensures ∙ ap (λ row. word row i) c.row-at.ensures.row) c.loop-i.invariant.1,
+      length-set xs i c.start_word.result ∙ full,
+      listed_more (λ j. word (row_at c.args.transform.now.rows.now j) j) xs i c.start_word.result here (c.start_word.ensures ∙ ap (λ row. word row i) c.row_at.ensures.row) c.loop-i.invariant.1,
     )
 
 pub returns : goal.returns
