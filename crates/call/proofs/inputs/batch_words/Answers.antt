@@ -13,7 +13,7 @@ loop-i-preserved g c =
     let xs = c.loop-i.words in
     let i = c.loop-i.i in
     let full = c.loop-i.invariant.0 in
-    (length-set xs i _ ∙ full, filled_more words c.args.first xs i _ _ (omega arith) refl c.input-words.ensures c.loop-i.invariant.1)
+    (length-set xs i _ ∙ full, filled_more words c.args.first xs i _ _ (omega arith) refl c.input_words.ensures c.loop-i.invariant.1)
 
 pub returns : goal.returns
 returns g c =

@@ -12,7 +12,7 @@ loop-channel-preserved g c =
     let xs = c.loop-channel.words in
     let i = c.loop-channel.channel in
     let full = c.loop-channel.invariant.0 in
-    (length-set xs i _ ∙ full, filled_more word 0 xs i i _ (omega arith) (omega arith) c.word-at.ensures c.loop-channel.invariant.1)
+    (length-set xs i _ ∙ full, filled_more word 0 xs i i _ (omega arith) (omega arith) c.word_at.ensures c.loop-channel.invariant.1)
 
 pub returns : goal.returns
 returns g c =

@@ -11,8 +11,8 @@ loop-i-preserved c =
     let xs = c.loop-i.words in
     let i = c.loop-i.i in
     let full = c.loop-i.invariant.0 in (
-      length-set xs i c.row-at.result.word ∙ full,
-      filled_more (λ j. (row_at c.args.transform.now.rows.now j).word) 0 xs i i _ (omega arith) (omega arith) (ap (λ r. r.word) c.row-at.ensures.row) c.loop-i.invariant.1,
+      length-set xs i c.row_at.result.word ∙ full,
+      filled_more (λ j. (row_at c.args.transform.now.rows.now j).word) 0 xs i i _ (omega arith) (omega arith) (ap (λ r. r.word) c.row_at.ensures.row) c.loop-i.invariant.1,
     )
 
 pub returns : goal.returns

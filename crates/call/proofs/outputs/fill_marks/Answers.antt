@@ -6,7 +6,7 @@ use Rattle.call.proofs.outputs.fill_marks.Goals as goal
 
 pub loop-i-preserved : goal.loop-i-preserved
 loop-i-preserved c =
-    marks_more c.loop-i.marks c.args.batch.now.pixels c.loop-i.i _ _ (omega arith) (omega (arith, c.requires)) c.loop-i.invariant c.mark-at.ensures
+    marks_more c.loop-i.marks c.args.batch.now.pixels c.loop-i.i _ _ (omega arith) (omega (arith, c.requires)) c.loop-i.invariant c.mark_at.ensures
 
 pub returns : goal.returns
 returns c =

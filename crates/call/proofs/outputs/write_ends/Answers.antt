@@ -6,7 +6,7 @@ use Rattle.call.proofs.outputs.write_ends.Goals as goal
 pub loop-i-preserved : goal.loop-i-preserved
 loop-i-preserved g c =
     ends_more c.args.transform.now.rows.now c.args.batch.now.pixels c.loop-i.i c.args.first _ _ (g.O.Readable.image c.loop-i.output) _
-    (omega (arith, c.requires.few)) c.loop-i.invariant c.write-at.ensures
+    (omega (arith, c.requires.few)) c.loop-i.invariant c.write_at.ensures
 
 pub returns : goal.returns
 returns g c =

@@ -5,16 +5,16 @@ use Rattle.call.specs.Events.{batch_ends}
 use Rattle.call.proofs.Together.{together_ends, together_long, together_rounds, together_few}
 use Rattle.call.proofs.settings.Settings.serve.Goals as goal
 
-pub fill-marks-requires : goal.fill-marks-requires
-fill-marks-requires g c =
+pub fill_marks-requires : goal.fill_marks-requires
+fill_marks-requires g c =
     together_long (setting_with g.K.NumberKind.meaning c.args.self) (g.I.Readable.image c.args.input.now) c.args.first (length c.args.marks.now) c.requires.few
-    c.batch-words-words.result c.batch-words-words.ensures.words c.new-batch.result.pixels _ c.run-together-rounds.ensures.ends
+    c.batch_words-words.result c.batch_words-words.ensures.words c.new-batch.result.pixels _ c.run_together-rounds.ensures.ends
 
-pub write-ends-requires : goal.write-ends-requires
-write-ends-requires g c = record {
+pub write_ends-requires : goal.write_ends-requires
+write_ends-requires g c = record {
   few =
       together_long (setting_with g.K.NumberKind.meaning c.args.self) (g.I.Readable.image c.args.input.now) c.args.first (length c.args.marks.now) c.requires.few
-      c.batch-words-words.result c.batch-words-words.ensures.words c.new-batch.result.pixels _ c.run-together-rounds.ensures.ends;
+      c.batch_words-words.result c.batch_words-words.ensures.words c.new-batch.result.pixels _ c.run_together-rounds.ensures.ends;
   end = c.requires.end;
 }
 
@@ -24,15 +24,15 @@ returns g c =
     let inn = g.I.Readable.image c.args.input.now in
     let first = c.args.first in
     let n = length c.args.marks.now in
-    let words = c.batch-words-words.result in
-    let given = c.batch-words-words.ensures.words in
+    let words = c.batch_words-words.result in
+    let given = c.batch_words-words.ensures.words in
     let most : s.budget ≤ 65535 = search rules in
-    let ends : take n c.run-together-rounds.new.batch.pixels ≡ batch_ends s inn first n =
-    together_ends s inn first n c.requires.few words given c.new-batch.result.pixels _ c.run-together-rounds.ensures.ends in
-    let counts = c.run-together-rounds.ensures.count ∙ together_rounds s inn first n c.requires.few words given in
+    let ends : take n c.run_together-rounds.new.batch.pixels ≡ batch_ends s inn first n =
+    together_ends s inn first n c.requires.few words given c.new-batch.result.pixels _ c.run_together-rounds.ensures.ends in
+    let counts = c.run_together-rounds.ensures.count ∙ together_rounds s inn first n c.requires.few words given in
     record {
-      marks = c.fill-marks.ensures ∙ ap (map mark_of) ends;
-      image = c.write-ends.ensures ∙ ap (λ xs. ends_put c.args.self.transform.rows.now xs first (g.O.Readable.image c.args.output.now)) ends;
+      marks = c.fill_marks.ensures ∙ ap (map mark_of) ends;
+      image = c.write_ends.ensures ∙ ap (λ xs. ends_put c.args.self.transform.rows.now xs first (g.O.Readable.image c.args.output.now)) ends;
       rounds = counts;
       few = subst (λ k. k ≤ 65535 * n) (sym counts) (together_few s inn first n c.requires.few words given most);
     }

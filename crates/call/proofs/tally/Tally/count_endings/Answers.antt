@@ -5,8 +5,8 @@ use Rattle.call.specs.Tallies.{Counted, ended}
 use Rattle.call.proofs.Counts.{five_endings, ended-le, counted_more}
 use Rattle.call.proofs.tally.Tally.count_endings.Goals as goal
 
-pub overflow-add-self : goal.overflow-add-self
-overflow-add-self c =
+pub overflow_add-self : goal.overflow_add-self
+overflow_add-self c =
     let n = c.number.result in
     let ms = take c.loop-mark.mark-index c.args.marks.now in
     let less : n < 5 = search (rules, five_endings) in

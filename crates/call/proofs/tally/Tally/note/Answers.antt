@@ -4,10 +4,10 @@ use Rattle.call.proofs.tally.Tally.note.Goals as goal
 
 pub add-requires : goal.add-requires
 add-requires c =
-    let k = c.count-endings.ensures in
+    let k = c.count_endings.ensures in
     (omega (arith, k.served, c.requires.room), omega (arith, k.rounds, c.requires.sound.0, c.requires.sound.2, c.ranges.rounds))
 
 pub returns : goal.returns
 returns c =
-    let both = tallied c.args.self.now c.count-endings.new.self c.add.new.self c.args.marks.now c.args.rounds c.requires.sound c.count-endings.ensures c.add.ensures c.requires.room c.requires.few in
+    let both = tallied c.args.self.now c.count_endings.new.self c.add.new.self c.args.marks.now c.args.rounds c.requires.sound c.count_endings.ensures c.add.ensures c.requires.room c.requires.few in
     record { tallied = both.0; sound = both.1 }
