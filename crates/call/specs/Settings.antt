@@ -1,5 +1,5 @@
 -- How a call is set up.
-use Rattle.std.specs.Prelude.{ℕ, cond, ◌&&◌, List, map, set, is_ok, Ok, Err, Result, nat_lt, slice_set}
+use Rattle.std.specs.Prelude.{ℕ, cond, ◌&&◌, List, map, is_ok, Ok, Err, Result, nat_lt, slice_set}
 use Rattle.std.specs.List.{range_with_len}
 use Rattle.number.specs.Meaning.{Meaning}
 use Rattle.transform.specs.Parts.{row_at, most_rows, is_flag, is_uniform}

@@ -3,7 +3,7 @@ use Rattle.std.proofs.Common.{◌≡◌, ℕ, zero, suc, ◌+◌, ◌-◌, ◌<�
 use Rattle.std.proofs.lemmas.List.{at_drop_more, take_all, length-drop, length-take-le, get_or-take}
 use Rattle.std.proofs.lemmas.Bool.{and_from, and_left, and_parts, lt-ltb, ltb-true, leb-true, le-leb, le-ltb, eqb-true, eq-eqb, cond-true, cond-false, cases_lt, cases_Bool, not-true, or_left, ne_eqb, not_from_true, not_from_false, or_parts, both_ways}
 use Rattle.frame.specs.Image.{Image, inside, sample, with_word, put_image, image_of}
-use Rattle.frame.specs.Relabel.{has, distinct, all_below, relabelled, relabelled_to, label_of, put_below}
+use Rattle.frame.specs.Relabel.{has, distinct, all_below, relabelled_to, label_of, put_below}
 use Rattle.frame.proofs.Images.{sample_inside, put_inside, read_sample, one_changed}
 
 -- every label exists

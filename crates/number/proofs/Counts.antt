@@ -1,5 +1,5 @@
 -- Products and quotients of signed numbers: how large they are.
-use Rattle.std.proofs.Common.{◌≡◌, ℕ, zero, suc, ◌*◌, ◌/◌, ◌^◌, ◌<◌, ◌≤◌, ℤ, pos, negsuc, ◌*ℤ◌, neg_ℤ, nat_abs, sym, refl, ap, ◌∙◌, subst, mul-le-mul, div-le_self, arith, w32, w64, SFits, to_z, of_z, rules}
+use Rattle.std.proofs.Common.{◌≡◌, ℕ, zero, suc, ◌*◌, ◌/◌, ◌^◌, ◌<◌, ◌≤◌, ℤ, pos, negsuc, ◌*ℤ◌, neg_ℤ, nat_abs, sym, ap, ◌∙◌, subst, mul-le-mul, div-le_self, arith, w32, w64, SFits, to_z, of_z, rules}
 use lib.Signed.{mag, quot_z}
 use Rattle.std.proofs.lemmas.Int.{to_z-of_z}
 

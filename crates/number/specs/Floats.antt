@@ -1,12 +1,12 @@
 -- The laws of the float kind, and its conversions.
-use Rattle.std.specs.Prelude.{◌≡◌, ℕ, zero, suc, ◌-◌, ◌*◌, ◌/◌, ◌%◌, ◌^◌, ◌<◌, ◌≤◌, min, Bool, true, false, cond, not, T, ℤ, pos, negsuc, neg_ℤ, Ok, Err, Result, FitsSigned, nat_le, nat_lt, unsigned_abs, refl, Float}
+use Rattle.std.specs.Prelude.{◌≡◌, ℕ, zero, suc, ◌-◌, ◌*◌, ◌/◌, ◌^◌, ◌<◌, ◌≤◌, min, Bool, true, false, cond, T, ℤ, pos, negsuc, neg_ℤ, Ok, Err, Result, FitsSigned, nat_le, nat_lt, unsigned_abs, refl, Float}
 use Rattle.std.proofs.Common.{sym, ap, ◌∙◌, subst, true≢false, mul-one, lt_of_not-le, arith, lt→ltb, le→leb, leb→le, ltb→lt, lit<, lit≤, to_z, of_z}
 use Rattle.std.proofs.Math.Arith.{le→nltb, lt→nleb}
 use Rattle.std.specs.Int.Signed.{mag}
 use Rattle.std.specs.Int.{w32, w64}
 use Rattle.std.specs.Float.{nan, inf, fin, binary32}
-use Rattle.std.specs.Float.Ieee.{up, down, fits, is_nan, nan_bits, of_bits, to_bits, of_int, round, to_signed}
-use Rattle.std.specs.Float.Ieee.Bits.{is_true, is_false, of_bits-to_bits, to_bits-lt, of_bits-fits, nan_bits_is, nan_bits_above}
+use Rattle.std.specs.Float.Ieee.{up, down, fits, is_nan, to_bits, of_int, round, to_signed}
+use Rattle.std.specs.Float.Ieee.Bits.{is_true, is_false, of_bits-to_bits, to_bits-lt, of_bits-fits}
 use Rattle.std.specs.Float.Ieee.Fits.{add-fits, sub-fits, mul-fits, div-fits, neg-fits, of_int-fits}
 use Rattle.std.specs.Float.Ieee.Exact.{HasValue}
 use Rattle.std.specs.Float.Ieee.Back.{round_whole}

@@ -1,10 +1,10 @@
 -- The check's answer is right about all faults.
-use Rattle.std.proofs.Common.{◌≡◌, ℕ, zero, suc, ◌<◌, ◌≤◌, Bool, true, false, List, [], ◌∷◌, length, is_some, Some, None, Option, sym, refl, ap, ◌∙◌, subst, ⊎_elim, arith}
+use Rattle.std.proofs.Common.{◌≡◌, ℕ, zero, suc, ◌<◌, Bool, true, false, List, [], ◌∷◌, length, Some, None, Option, sym, refl, ap, ◌∙◌, subst, ⊎_elim, arith}
 use Rattle.std.proofs.lemmas.Bool.{true≢false, cases_lt}
 use Rattle.transform.specs.Answers.{demand, ◌and_then◌, throughout, raised}
 use Rattle.transform.specs.Breach.{StepBreaks, Breaks}
 use Rattle.transform.specs.Check.{row_answer, rows_answer, step_answer, record_answer, records_answer, table_answer, checked}
-use Rattle.transform.specs.Faults.{row_cause, record_cause, cause, place}
+use Rattle.transform.specs.Faults.{cause, place}
 use Rattle.transform.specs.Kinds.{kind_of, fields_of}
 use Rattle.transform.specs.Parts.{row_at, record_at}
 use Rattle.transform.specs.Rules.{row_count_suits, row_known, channel_suits, word_suits, out_alone, record_count_suits, all_zero, leads_inside, record_fields_suit, record_types_suit, record_writes_suit, table_length_suits}
@@ -14,7 +14,6 @@ use Rattle.transform.specs.declared.fault.RecordFault.{RecordFault}
 use Rattle.transform.specs.declared.fault.RecordFault.TheVariants as RecordFaults
 use Rattle.transform.specs.declared.fault.RowFault.{RowFault}
 use Rattle.transform.specs.declared.fault.RowFault.TheVariants as RowFaults
-use Rattle.transform.specs.declared.fault.TableFault.{TableFault}
 use Rattle.transform.specs.declared.fault.TableFault.TheVariants.{TooLong}
 use Rattle.transform.specs.declared.kind.RecordKind.{RecordKind}
 use Rattle.transform.specs.declared.parts.Record.{Record}

@@ -1,8 +1,8 @@
 -- What the check accepts keeps every rule, what keeps every rule is accepted, and a fault is the first breach.
-use Rattle.std.proofs.Common.{◌≡◌, ℕ, ◌≤◌, Bool, true, false, leb, List, length, is_some, is_ok as passes, Some, None, Ok, Err, Option, sym, refl, ap, ◌∙◌, arith}
+use Rattle.std.proofs.Common.{◌≡◌, ℕ, ◌≤◌, Bool, true, false, leb, List, length, is_some, is_ok as passes, Some, None, Ok, Err, Option, sym, refl, ap, ◌∙◌}
 use Rattle.std.proofs.lemmas.Bool.{false≢true, both_ways, and_parts, and_from, leb-true, le-leb}
 use Rattle.transform.specs.Answers.{Answer}
-use Rattle.transform.specs.Breach.{Breaks, FirstBreach, Judged}
+use Rattle.transform.specs.Breach.{Breaks, Judged}
 use Rattle.transform.specs.Check.{checked}
 use Rattle.transform.specs.Keeps.{Keeps}
 use Rattle.transform.specs.Kinds.{kind_of, fields_of}

@@ -1,5 +1,5 @@
 -- An out row is alone on its channel exactly where no earlier out row has that channel.
-use Rattle.std.proofs.Common.{◌≡◌, ℕ, zero, suc, ◌<◌, Bool, true, false, cond, not, ◌&&◌, ◌||◌, eqb, List, sym, refl, ap, ◌∙◌, ⊎_elim, arith}
+use Rattle.std.proofs.Common.{◌≡◌, ℕ, zero, suc, ◌<◌, Bool, true, false, not, eqb, List, refl, ap, ◌∙◌, ⊎_elim, arith}
 use Rattle.std.proofs.lemmas.Bool.{false≢true, true≢false, and_parts, and_from, or_cases, or_left, or_right, eqb-true, eq-eqb, cases_lt}
 use Rattle.transform.specs.Parts.{is_out, row_at}
 use Rattle.transform.specs.Rules.{out_on, out_before, out_alone, SameOut}

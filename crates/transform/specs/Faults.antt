@@ -2,11 +2,9 @@
 use Rattle.std.specs.Prelude.{ℕ}
 use Rattle.transform.specs.declared.fault.RowFault.{RowFault}
 use Rattle.transform.specs.declared.fault.RecordFault.{RecordFault}
-use Rattle.transform.specs.declared.fault.TableFault.{TableFault}
 use Rattle.transform.specs.declared.fault.Fault.{Fault}
 use Rattle.transform.specs.declared.fault.RowFault.TheVariants as RowFaults
 use Rattle.transform.specs.declared.fault.RecordFault.TheVariants as RecordFaults
-use Rattle.transform.specs.declared.fault.TableFault.TheVariants.{TooLong}
 use Rattle.transform.specs.declared.fault.Fault.TheVariants.{Rows, Records, Table}
 
 -- the number of the rule that a fault of the rows says is broken

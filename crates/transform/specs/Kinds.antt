@@ -1,5 +1,5 @@
 -- The fifteen kinds of step.
-use Rattle.std.specs.Prelude.{ℕ, Bool, true, false, cond, ◌&&◌, ◌||◌, List, [], ◌∷◌, Some, None, Option, ◌==◌, nat_eq, nat_le, slice_index_or}
+use Rattle.std.specs.Prelude.{ℕ, Bool, ◌&&◌, ◌||◌, List, [], ◌∷◌, Some, None, Option, ◌==◌, nat_eq, nat_le, slice_index_or}
 use Rattle.transform.specs.Parts.{flag, whole, number}
 use Rattle.transform.specs.Tests.{◌implies◌}
 use Rattle.transform.specs.declared.kind.Fields.{Fields}

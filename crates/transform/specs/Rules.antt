@@ -1,6 +1,6 @@
 -- The rules that a transform keeps, each a test.
 use Rattle.std.specs.Prelude.{◌≡◌, ℕ, zero, suc, Bool, true, false, cond, not, ◌&&◌, ◌||◌, leb, List, length, ◌==◌, nat_eq, nat_le, nat_lt}
-use Rattle.transform.specs.Kinds.{fields_of, suits}
+use Rattle.transform.specs.Kinds.{suits}
 use Rattle.transform.specs.Parts.{flag, number, uniform, most_rows, most_records, most_words, channels, is_flag, is_number, is_in, is_out, is_uniform, row_at}
 use Rattle.transform.specs.Tests.{within, ◌implies◌}
 use Rattle.transform.specs.declared.kind.Fields.{Fields}

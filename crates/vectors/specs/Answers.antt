@@ -1,5 +1,5 @@
 -- What a case's operation answers, by its kind.
-use Rattle.std.specs.Prelude.{ℕ, Bool, ℤ, Some, None, Ok, Err, Option, Result}
+use Rattle.std.specs.Prelude.{ℕ, ℤ, Some, None, Ok, Err, Option, Result}
 use Rattle.number.specs.declared.kind.Stop.{Stop}
 use Rattle.number.specs.Meaning.{Meaning, stop_number}
 use Rattle.number.specs.Whole.{signed, word, whole_add, whole_subtract, whole_multiply, whole_divide, whole_remainder, whole_negate, whole_less, whole_equal}

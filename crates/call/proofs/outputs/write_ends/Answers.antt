@@ -1,4 +1,4 @@
-use Rattle.std.proofs.Common.{◌≡◌, take, refl, subst, arith}
+use Rattle.std.proofs.Common.{◌≡◌, take, subst, arith}
 use Rattle.call.specs.Frames.{ends_put}
 use Rattle.call.proofs.Ends.{ends_more}
 use Rattle.call.proofs.outputs.write_ends.Goals as goal

@@ -1,4 +1,4 @@
-use Rattle.std.proofs.Common.{◌≡◌, ◌*◌, ◌≤◌, map, length, take, sym, ap, ◌∙◌, subst, arith, rules}
+use Rattle.std.proofs.Common.{◌≡◌, ◌*◌, ◌≤◌, map, length, take, sym, ap, ◌∙◌, subst, rules}
 use Rattle.call.specs.Frames.{ends_put, mark_of}
 use Rattle.call.specs.Settings.{setting_with}
 use Rattle.call.specs.Events.{batch_ends}

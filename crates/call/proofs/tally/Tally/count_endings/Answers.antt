@@ -1,7 +1,6 @@
-use Rattle.std.proofs.Common.{◌≡◌, ◌+◌, ◌<◌, ◌≤◌, length, get_or, take, sym, refl, subst, arith, rules}
+use Rattle.std.proofs.Common.{◌≡◌, ◌<◌, length, take, sym, refl, subst, arith, rules}
 use Rattle.std.proofs.lemmas.List.{take_more, take_all, length-take-le}
-use Rattle.engine.specs.Endings.{ending_number}
-use Rattle.call.specs.Tallies.{Counted, ended}
+use Rattle.call.specs.Tallies.{Counted}
 use Rattle.call.proofs.Counts.{five_endings, ended-le, counted_more}
 use Rattle.call.proofs.tally.Tally.count_endings.Goals as goal
 
