@@ -32,7 +32,10 @@ fn planar_corners(rt: HostRuntime) -> Result<(), Fail> {
     corners_hold(&rt, &mut frame);
     outside_refused(&rt, &mut frame);
     let words = frame.into_words();
-    assert_eq!(rt; words.as_slice(), &[0x0102_0304, 9, 3, 2, 9, u32::MAX]);
+    assert_eq!(rt;
+        words.as_slice(),
+        [0x0102_0304, 9, 3, 2, 9, u32::MAX].as_slice()
+    );
     Ok(())
 }
 
@@ -47,9 +50,10 @@ fn packed_corners(rt: HostRuntime) -> Result<(), Fail> {
     let bytes = frame.into_bytes();
     assert_eq!(rt;
         bytes.as_slice(),
-        &[
+        [
             1, 2, 3, 4, 0, 0, 0, 2, 0, 0, 0, 9, 0, 0, 0, 9, 0, 0, 0, 3, 255, 255, 255, 255,
         ]
+        .as_slice()
     );
     Ok(())
 }
@@ -61,7 +65,7 @@ fn field_reads(rt: HostRuntime) -> Result<(), Fail> {
     assert_eq!(rt; frame.get(2, 1), Some(6));
     assert_eq!(rt; frame.get(3, 0), None);
     assert_eq!(rt; frame.get(0, 2), None);
-    assert_eq!(rt; frame.into_words().as_slice(), &[5, 6]);
+    assert_eq!(rt; frame.into_words().as_slice(), [5, 6].as_slice());
     Ok(())
 }
 
@@ -91,6 +95,9 @@ fn pixel_written_whole_or_not(rt: HostRuntime) -> Result<(), Fail> {
     assert!(rt; write_pixel(&mut frame, 1, &inside).is_ok());
     assert!(rt; write_pixel(&mut frame, 1, &outside).is_err());
     assert!(rt; write_pixel(&mut frame, 3, &inside).is_err());
-    assert_eq!(rt; frame.into_words().as_slice(), &[9, 8, 9, 9, 7, 9]);
+    assert_eq!(rt;
+        frame.into_words().as_slice(),
+        [9, 8, 9, 9, 7, 9].as_slice()
+    );
     Ok(())
 }

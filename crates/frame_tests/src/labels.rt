@@ -51,7 +51,7 @@ fn planar_below(rt: HostRuntime) -> Result<(), Fail> {
     assert!(rt; frame.put(2, 0, 9).is_err());
     assert_eq!(rt;
         frame.into_below().into_words().as_slice(),
-        &[1, 8, 3, 4, 7, 6]
+        [1, 8, 3, 4, 7, 6].as_slice()
     );
     Ok(())
 }
@@ -66,7 +66,7 @@ fn relabelled_below(rt: HostRuntime) -> Result<(), Fail> {
     assert!(rt; frame.put(1, 1, 9).is_err());
     assert_eq!(rt;
         frame.into_below().into_below().into_words().as_slice(),
-        &[1, 9, 3, 4, 5, 6]
+        [1, 9, 3, 4, 5, 6].as_slice()
     );
     Ok(())
 }

@@ -17,7 +17,10 @@ fn put_everywhere<F: Writable>(frame: &mut F) {
 fn words_beyond_the_pixels_stay(rt: HostRuntime) -> Result<(), Fail> {
     let mut frame = Planar::new(Vec::from_elem(rt.alloc(), 9u32, 8)?, 3);
     put_everywhere(&mut frame);
-    assert_eq!(rt; frame.into_words().as_slice(), &[1, 1, 1, 1, 1, 1, 9, 9]);
+    assert_eq!(rt;
+        frame.into_words().as_slice(),
+        [1, 1, 1, 1, 1, 1, 9, 9].as_slice()
+    );
     Ok(())
 }
 
@@ -27,7 +30,7 @@ fn bytes_beyond_the_pixels_stay(rt: HostRuntime) -> Result<(), Fail> {
     put_everywhere(&mut frame);
     assert_eq!(rt;
         frame.into_bytes().as_slice(),
-        &[0, 0, 0, 1, 0, 0, 0, 1, 0, 0, 0, 1, 9, 9, 9]
+        [0, 0, 0, 1, 0, 0, 0, 1, 0, 0, 0, 1, 9, 9, 9].as_slice()
     );
     Ok(())
 }
@@ -36,7 +39,7 @@ fn bytes_beyond_the_pixels_stay(rt: HostRuntime) -> Result<(), Fail> {
 fn memory_of_no_frame_stays(rt: HostRuntime) -> Result<(), Fail> {
     let mut frame = Planar::new(Vec::from_elem(rt.alloc(), 9u32, 4)?, 9);
     put_everywhere(&mut frame);
-    assert_eq!(rt; frame.into_words().as_slice(), &[9, 9, 9, 9]);
+    assert_eq!(rt; frame.into_words().as_slice(), [9, 9, 9, 9].as_slice());
     Ok(())
 }
 
@@ -47,7 +50,7 @@ fn channels_not_in_the_list_stay(rt: HostRuntime) -> Result<(), Fail> {
     put_everywhere(&mut frame);
     assert_eq!(rt;
         frame.into_below().into_words().as_slice(),
-        &[1, 1, 9, 9, 1, 1, 9]
+        [1, 1, 9, 9, 1, 1, 9].as_slice()
     );
     Ok(())
 }
