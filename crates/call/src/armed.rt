@@ -30,7 +30,7 @@ impl<'a> Armed<'a> {
     }
 
     /// Ends the call; answers how often each ending occurred in the batches that it served, and the sum of their rounds.
-    pub fn close(self) -> Tally
+    pub(crate) fn close(self) -> Tally
         ensures { result ≡ self.entry.tally }
     {
         self.tally

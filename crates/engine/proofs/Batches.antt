@@ -1,6 +1,6 @@
 -- The loops over the pixels of a batch, one pixel on.
 use Rattle.std.proofs.Common.{◌≡◌, ℕ, ◌+◌, ◌-◌, ◌*◌, ◌<◌, ◌≤◌, min, cond, eqb, List, [], ◌∷◌, ◌++◌, map, length, get_or, take, drop, set, is_some, Some, None, sym, refl, ap, ◌∙◌, subst, inl, inr, suc-mul, arith}
-use Rattle.std.specs.List.{AllByRecursion as All}
+use Rattle.std.specs.List.{AllByRecursion}
 use Rattle.std.proofs.lemmas.Bool.{cases_Bool, cases_eq, cases_lt, ne_eqb, true≢false}
 use Rattle.std.proofs.lemmas.List.{take_more, take_all, drop_all, append-nil, get_or-append_right, get_or-drop, length-map, length-take-le, length-append, length-drop, get_or_default, map_push}
 use Rattle.std.proofs.lemmas.List.Edits.{map_over_more}
@@ -87,7 +87,7 @@ module _ (f : Pixel → Pixel) (xs ys : List Pixel) (i : ℕ) (h : i < length xs
       sym (ap lowest_place s ∙ lowest-push (λ p. p.place) (λ p. is_some p.ending) (map f (take i xs)) q)
 
   -- what holds of all holds of pixel i still
-  pub holds_at : (P : Pixel → Type 0) → All P xs → P (get_or ys i no_pixel)
+  pub holds_at : (P : Pixel → Type 0) → AllByRecursion P xs → P (get_or ys i no_pixel)
   holds_at P g = subst P (sym as_before) (All-get_or P xs i no_pixel h g)
 
 -- all are changed in the end
@@ -96,7 +96,7 @@ change_all f xs ys i h inv = inv ∙ ap (λ zs. map f (take i xs) ++ zs) (drop_a
 
 module _ (s : Setting) where
   -- the lowest place of sound pixels is a record's
-  pub lowest_here : (ps : List Pixel) (place : ℕ) → All (Sound s) ps → lowest_place ps ≡ Some place → (0 < place) × (place < length s.records)
+  pub lowest_here : (ps : List Pixel) (place : ℕ) → AllByRecursion (Sound s) ps → lowest_place ps ≡ Some place → (0 < place) × (place < length s.records)
   lowest_here [] place g e = absurd (true≢false (sym (ap is_some e)))
   lowest_here (p ∷ ps) place g e =
       elim (cases_Bool (is_some p.ending)) [

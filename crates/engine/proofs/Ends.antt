@@ -1,7 +1,7 @@
 -- Every pixel of an accepted transform ends: each step is counted, and none leads away from the records.
 use Rattle.std.proofs.Common.{◌≡◌, ℕ, zero, suc, ◌+◌, ◌<◌, ◌≤◌, Bool, true, false, cond, eqb, List, [], ◌∷◌, map, length, get_or, ℤ, is_some, Some, None, Ok, Err, Option, Result, sym, refl, ap, ◌∙◌, subst, inl, inr, arith}
 use Rattle.std.specs.Option.{option_map}
-use Rattle.std.specs.List.{AllByRecursion as All}
+use Rattle.std.specs.List.{AllByRecursion}
 use Rattle.std.proofs.lemmas.Bool.{cases_Bool, true≢false, eqb-false, cond-true, cond-false}
 use Rattle.schedule.specs.Machine.{Ends, Reaches, lone}
 use Rattle.schedule.proofs.LoneRuns.{lone-ends}
@@ -176,6 +176,6 @@ start_sound m t b uniforms inputs =
     standing_sound (setting_of m t b uniforms) (start_registers m t.rows.now uniforms inputs) 1 0 (omega arith) (omega arith)
 
 -- so are all pixels at their start
-pub starts_sound : (m : Meaning) (t : Accepted) (b : Budget) (uniforms : List ℕ) (inputs : List (List ℕ)) → All (Sound (setting_of m t b uniforms)) (map (start_of (setting_of m t b uniforms)) inputs)
+pub starts_sound : (m : Meaning) (t : Accepted) (b : Budget) (uniforms : List ℕ) (inputs : List (List ℕ)) → AllByRecursion (Sound (setting_of m t b uniforms)) (map (start_of (setting_of m t b uniforms)) inputs)
 starts_sound m t b uniforms [] = tt
 starts_sound m t b uniforms (words ∷ inputs) = (start_sound m t b uniforms words, starts_sound m t b uniforms inputs)

@@ -1,7 +1,7 @@
 //! Up to 64 pixels that run together, in rounds. The rules stand in docs/RULES.md, "Rounds".
 ghost use Rattle.std.specs.Prelude.{◌≡◌, ℕ, ◌<◌, ◌≤◌, List, [], map, length, take, replicate};
 ghost use Rattle.std.specs.Option.{option_map};
-ghost use Rattle.std.specs.List.{AllByRecursion as All};
+ghost use Rattle.std.specs.List.{AllByRecursion};
 ghost use Rattle.schedule.specs.Machine.{lone};
 ghost use Rattle.schedule.specs.Rounds.{round, rounds};
 ghost use Rattle.schedule.specs.Laws.{Laws};
@@ -77,7 +77,7 @@ fn run_round<K: NumberKind>(
 ) -> Option<u16>
     requires placed { 0 < place }
     requires here { place < length transform.now.records.now }
-    requires sound { All (Sound (setting_of K.NumberKind.meaning transform.now budget [])) pixels.old }
+    requires sound { AllByRecursion (Sound (setting_of K.NumberKind.meaning transform.now budget [])) pixels.old }
     ensures after { pixels.new ≡ round (machine (setting_of K.NumberKind.meaning transform.now budget [])) place pixels.old }
     ensures next { result ≡ lowest_place pixels.new }
 {
@@ -95,7 +95,7 @@ fn run_round<K: NumberKind>(
 // Rounds until every pixel has an ending; answers how many.
 fn run_rounds<K: NumberKind>(transform: &Accepted, budget: Budget, pixels: &mut [Pixel]) -> u32
     requires few { length pixels.old ≤ 64 }
-    requires sound { All (Sound (setting_of K.NumberKind.meaning transform.now budget [])) pixels.old }
+    requires sound { AllByRecursion (Sound (setting_of K.NumberKind.meaning transform.now budget [])) pixels.old }
     ensures ends { pixels.new ≡ map (lone (machine (setting_of K.NumberKind.meaning transform.now budget []))) pixels.old }
     ensures count { result ≡ rounds (machine (setting_of K.NumberKind.meaning transform.now budget [])) pixels.old }
 {

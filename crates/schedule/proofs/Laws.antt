@@ -1,6 +1,6 @@
 -- The laws of rounds, for any machine whose steps bring the steps that are left down.
 use Rattle.std.proofs.Common.{◌≡◌, ℕ, zero, suc, ◌≤◌, eqb, List, [], ◌∷◌, ◌++◌, map, Some, None, sym, refl, ap, ◌∙◌, inl, inr, arith}
-use Rattle.std.specs.List.{AllByRecursion as All}
+use Rattle.std.specs.List.{AllByRecursion}
 use Rattle.std.proofs.ByRecursion.{All-append}
 use Rattle.std.proofs.lemmas.Bool.{cases_Bool, eq-eqb, cond-true}
 use Rattle.schedule.specs.Machine.{Machine, Ends, lone, steps_in, steps}
@@ -58,13 +58,13 @@ module _ {S : Type 0} (m : Machine S) {Sound : S → Type 0} (law : Ends m Sound
       omega arith
 
   -- a round counts one
-  pub rounds_step : (p : ℕ) (ss : List S) → All Sound ss → lowest m ss ≡ Some p → rounds m ss ≡ suc (rounds m (round m p ss))
+  pub rounds_step : (p : ℕ) (ss : List S) → AllByRecursion Sound ss → lowest m ss ≡ Some p → rounds m ss ≡ suc (rounds m (round m p ss))
   rounds_step p ss g e =
       let next = (company (round m p ss) (sound_round m law p ss g)).0 in
       sym ((company ss g).1 (suc (rounds m (round m p ss))) (map (lone m) (round m p ss)) (p, e, next)).0
 
   -- none is left where all have ended
-  pub rounds_none : (ss : List S) → All Sound ss → lowest m ss ≡ None → rounds m ss ≡ 0
+  pub rounds_none : (ss : List S) → AllByRecursion Sound ss → lowest m ss ≡ None → rounds m ss ≡ 0
   rounds_none ss g e = sym ((company ss g).1 0 ss (e, refl)).0
 
   -- there are no more rounds than steps left in all
@@ -72,7 +72,7 @@ module _ {S : Type 0} (m : Machine S) {Sound : S → Type 0} (law : Ends m Sound
   rounds_left ss = rounds_in-le m (total m.left ss) ss
 
   -- what keeps a bound keeps a higher one
-  weaker : {X : Type 0} (f : X → ℕ) (a b : ℕ) → a ≤ b → (xs : List X) → All (λ x. f x ≤ a) xs → All (λ x. f x ≤ b) xs
+  weaker : {X : Type 0} (f : X → ℕ) (a b : ℕ) → a ≤ b → (xs : List X) → AllByRecursion (λ x. f x ≤ a) xs → AllByRecursion (λ x. f x ≤ b) xs
   weaker f a b h [] g = tt
   weaker f a b h (x ∷ xs) g = let k = g.0 in (omega arith, weaker f a b h xs g.1)
 
@@ -86,7 +86,7 @@ module _ {S : Type 0} (m : Machine S) {Sound : S → Type 0} (law : Ends m Sound
       (omega arith, weaker (steps m) (rounds m ss) (rounds m (s ∷ ss)) j.2 ss (longest ss g.1))
 
   -- sound batches in order are sound
-  sound-chained : (bs : List (List S)) → All (All Sound) bs → All Sound (chained bs)
+  sound-chained : (bs : List (List S)) → AllByRecursion (AllByRecursion Sound) bs → AllByRecursion Sound (chained bs)
   sound-chained [] g = tt
   sound-chained (b ∷ bs) g = All-append Sound b (chained bs) g.0 (sound-chained bs g.1)
 

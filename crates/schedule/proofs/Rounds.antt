@@ -1,6 +1,6 @@
 -- Rounds: what one does to each state, and what the rounds of two batches joined are to each of the two.
 use Rattle.std.proofs.Common.{◌≡◌, ℕ, zero, suc, ◌+◌, ◌<◌, ◌≤◌, true, false, List, [], ◌∷◌, ◌++◌, map, Some, None, Option, sym, refl, ap, ◌∙◌, subst, inl, inr, ⊎_elim, arith}
-use Rattle.std.specs.List.{AllByRecursion as All}
+use Rattle.std.specs.List.{AllByRecursion}
 use Rattle.std.proofs.lemmas.List.{map-append}
 use Rattle.std.proofs.lemmas.Bool.{cases_Bool, cases_eq, eq-eqb, ne_eqb}
 use Rattle.schedule.specs.Machine.{Machine, Ends, lone}
@@ -148,7 +148,7 @@ module _ {S : Type 0} (m : Machine S) {Sound : S → Type 0} (law : Ends m Sound
       ]
 
   -- so does a round
-  pub lone_round : (p : ℕ) (ss : List S) → All Sound ss → map (lone m) (round m p ss) ≡ map (lone m) ss
+  pub lone_round : (p : ℕ) (ss : List S) → AllByRecursion Sound ss → map (lone m) (round m p ss) ≡ map (lone m) ss
   lone_round p [] g = refl
   lone_round p (s ∷ ss) g = let a = lone-turn p s g.0 in let b = lone_round p ss g.1 in cc
 
@@ -164,7 +164,7 @@ module _ {S : Type 0} (m : Machine S) {Sound : S → Type 0} (law : Ends m Sound
       ]
 
   -- soundness lasts over a round
-  pub sound_round : (p : ℕ) (ss : List S) → All Sound ss → All Sound (round m p ss)
+  pub sound_round : (p : ℕ) (ss : List S) → AllByRecursion Sound ss → AllByRecursion Sound (round m p ss)
   sound_round p [] g = tt
   sound_round p (s ∷ ss) g = (sound-turn p s g.0, sound_round p ss g.1)
 
@@ -180,12 +180,12 @@ module _ {S : Type 0} (m : Machine S) {Sound : S → Type 0} (law : Ends m Sound
       ]
 
   -- nor does a round
-  left-round : (p : ℕ) (ss : List S) → All Sound ss → total m.left (round m p ss) ≤ total m.left ss
+  left-round : (p : ℕ) (ss : List S) → AllByRecursion Sound ss → total m.left (round m p ss) ≤ total m.left ss
   left-round p [] g = omega arith
   left-round p (s ∷ ss) g = omega (arith, left-turn p s g.0, left-round p ss g.1)
 
   -- a round takes a step at least
-  pub left_falls : (p : ℕ) (ss : List S) → All Sound ss → lowest m ss ≡ Some p → total m.left (round m p ss) < total m.left ss
+  pub left_falls : (p : ℕ) (ss : List S) → AllByRecursion Sound ss → lowest m ss ≡ Some p → total m.left (round m p ss) < total m.left ss
   left_falls p [] g h = none_some p h
   left_falls p (s ∷ ss) g h =
       let ih = left_falls p ss g.1 in
@@ -208,7 +208,7 @@ module _ {S : Type 0} (m : Machine S) {Sound : S → Type 0} (law : Ends m Sound
   lone-none (s ∷ ss) h = let e = none_ended m s ss h in let a = after_ended m (m.left s) s e.0 in let b = lone-none ss e.1 in cc
 
   -- the rounds lead to the ends of the lone runs
-  pub leads_in : (n : ℕ) (ss : List S) → All Sound ss → total m.left ss ≤ n → Leads m ss (rounds_in m n ss) (map (lone m) ss)
+  pub leads_in : (n : ℕ) (ss : List S) → AllByRecursion Sound ss → total m.left ss ≤ n → Leads m ss (rounds_in m n ss) (map (lone m) ss)
   leads_in zero ss g h = go (lowest m ss) refl
     where
       go : (o : Option ℕ) → lowest m ss ≡ o → Leads m ss 0 (map (lone m) ss)

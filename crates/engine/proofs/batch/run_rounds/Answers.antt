@@ -1,5 +1,5 @@
 use Rattle.std.proofs.Common.{◌≡◌, ◌*◌, ◌<◌, ◌≤◌, [], map, length, None, sym, ap, ◌∙◌, subst, mul-le-mul_right, arith, rules}
-use Rattle.std.specs.List.{AllByRecursion as All}
+use Rattle.std.specs.List.{AllByRecursion}
 use Rattle.schedule.specs.Machine.{lone}
 use Rattle.schedule.specs.Rounds.{lowest, rounds}
 use Rattle.schedule.proofs.Rounds.{lone_round, lone-none, sound_round}
@@ -50,7 +50,7 @@ loop-low-preserved g c =
     let one = rounds_step (machine s) law place ys inv.0 (sym inv.1 ∙ c.in-Some.is) in
     let next = ap (rounds (machine s)) e in
     let counted = inv.3 in (
-      subst (All (Sound s)) (sym e) (sound_round (machine s) law place ys inv.0),
+      subst (AllByRecursion (Sound s)) (sym e) (sound_round (machine s) law place ys inv.0),
       c.run_round-low.ensures.next,
       ap (map (lone (machine s))) e ∙ lone_round (machine s) law place ys inv.0 ∙ inv.2,
       omega arith,

@@ -1,5 +1,5 @@
 use Rattle.std.proofs.Common.{◌≡◌, ◌+◌, [], map}
-use Rattle.std.specs.List.{AllByRecursion as All}
+use Rattle.std.specs.List.{AllByRecursion}
 use Rattle.schedule.specs.Machine.{lone}
 use Rattle.schedule.specs.Rounds.{rounds}
 use Rattle.engine.specs.Runs.{setting_of, machine, Sound}
@@ -9,7 +9,7 @@ use Rattle.engine.proofs.batch.run_rounds.Given as goal
 abbrev pub invariant-loop-low : goal.invariant-loop-low
 invariant-loop-low g l =
     let s = setting_of g.K.NumberKind.meaning l.transform l.budget [] in
-    All (Sound s) l.pixels × (l.low ≡ lowest_place l.pixels) × (map (lone (machine s)) l.pixels ≡ map (lone (machine s)) l.initial.pixels) ×
+    AllByRecursion (Sound s) l.pixels × (l.low ≡ lowest_place l.pixels) × (map (lone (machine s)) l.pixels ≡ map (lone (machine s)) l.initial.pixels) ×
     (l.count + rounds (machine s) l.pixels ≡ rounds (machine s) l.initial.pixels)
 
 abbrev pub decreases-loop-low : goal.decreases-loop-low

@@ -1,6 +1,6 @@
 use Rattle.std.proofs.Common.{◌≡◌, ◌++◌, map, length, take, sym, ap, ◌∙◌, subst, arith, rules}
 use mathlib.Core.List.{map-map}
-use Rattle.std.specs.List.{AllByRecursion as All}
+use Rattle.std.specs.List.{AllByRecursion}
 use Rattle.std.proofs.lemmas.List.{length-take-le, length-map}
 use Rattle.schedule.specs.Machine.{lone}
 use Rattle.schedule.specs.Rounds.{rounds}
@@ -22,7 +22,7 @@ run_rounds-requires g c =
     let long = ap length start ∙ length-map (take n inputs) (start_of s) ∙ length-take-le n inputs (omega arith) in
     record {
       few = omega arith;
-      sound = subst (All (Sound s)) (sym start) (starts_sound g.K.NumberKind.meaning c.args.transform.now c.args.budget c.args.uniforms.now (take n inputs));
+      sound = subst (AllByRecursion (Sound s)) (sym start) (starts_sound g.K.NumberKind.meaning c.args.transform.now c.args.budget c.args.uniforms.now (take n inputs));
     }
 
 pub returns : goal.returns
