@@ -5,7 +5,7 @@ use std::time::Instant;
 
 // The allocator that the Rattle functions take first has no size, so nothing is passed for it.
 #[link(name = "frame_bench", kind = "static")]
-#[link(name = "rattle_c", kind = "static")]
+#[link(name = "libc_c", kind = "static")]
 unsafe extern "C" {
     safe fn planar_gets(pixels: usize, channels: usize, by_channel: bool, rounds: usize) -> u32;
     safe fn planar_puts(pixels: usize, channels: usize, by_channel: bool, rounds: usize) -> u32;
