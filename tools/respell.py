@@ -23,10 +23,12 @@ NAMES = """
     afterSet after_set
     all-below all_below
     all-causes all_causes
+    all-count all_count
     all-inside all_inside
     all-inside-kept all_inside_kept
     all-written all_written
     allZero all_zero
+    alone-in alone_in
     andThen and_then
     apart-four apart_four
     b-le b_le
@@ -48,10 +50,13 @@ NAMES = """
     checked-right checked_right
     counted-at counted_at
     counted-fault counted_fault
+    counted-in counted_in
     counted-more counted_more
+    demand-then demand_then
     distinct-here distinct_here
     distinct-next distinct_next
     divide-yields divide_yields
+    drop-counted drop_counted
     effect-leads effect_leads
     empty-image empty_image
     end-at end_at
@@ -64,10 +69,12 @@ NAMES = """
     endingOf ending_of
     endings-le endings_le
     ends-after ends_after
+    ends-are ends_are
     ends-before ends_before
     ends-here ends_here
     ends-push ends_push
     ends-size ends_size
+    ends-within ends_within
     endsPut ends_put
     entry-leads entry_leads
     exactly-neg exactly_neg
@@ -132,16 +139,27 @@ NAMES = """
     label-parts label_parts
     labels-after-put labels_after_put
     lacksChannel lacks_channel
+    last-demand last_demand
     later-place later_place
     later-stage later_stage
     leads-in leads_in
     leadsInside leads_inside
     left-falls left_falls
+    left-round left_round
+    left-turn left_turn
+    length-counted length_counted
     lesser-lower lesser_lower
     lesser-other lesser_other
     list-ok list_ok
+    lone-counted lone_counted
+    lone-demand lone_demand
+    lone-ends lone_ends
+    lone-reached lone_reached
     lone-round lone_round
+    lone-step lone_step
+    lone-turn lone_turn
     loneRun lone_run
+    long-ends long_ends
     lowest-here lowest_here
     lowest-more lowest_more
     lowest-over lowest_over
@@ -161,12 +179,15 @@ NAMES = """
     neg-in neg_in
     neg-out neg_out
     negate-yields negate_yields
+    next-sound next_sound
     no-fit no_fit
     noPixel no_pixel
     noRecord no_record
+    none-broken none_broken
     none-ended none_ended
     none-some none_some
     not-alone not_alone
+    of-kind of_kind
     ofInt-exact of_int_exact
     ofWhole of_whole
     ofWord of_word
@@ -174,7 +195,10 @@ NAMES = """
     onNumbers on_numbers
     onWholes on_wholes
     one-changed one_changed
+    one-more-le one_more-le
     oneMore one_more
+    out-before earlier_out
+    out-found out_found
     out-row out_row
     outAlone out_alone
     outBefore out_before
@@ -192,7 +216,9 @@ NAMES = """
     packed-word packed_word
     part-whole part_whole
     past-tail past_tail
+    past-turn past_turn
     pixelAt pixel_at
+    pixels-end pixels_end
     pixels-fit pixels_fit
     pixels-in pixels_in
     place-apart place_apart
@@ -221,22 +247,30 @@ NAMES = """
     puttingEntry putting_entry
     puttingWhole putting_whole
     ranTogether ran_together
+    reached-within reached_within
+    reaches-counts reaches_counts
     read-packed read_packed
     read-plane read_plane
     read-sample read_sample
     record-causes record_causes
     record-fault RecordFaults
+    record-right record_right
     record-there record_there
     recordAnswer record_answer
     recordAt record_at
     recordCause record_cause
     recordPlace record_place
     records-counted records_counted
+    records-right records_right
     recordsAnswer records_answer
     recordsCounted record_count_suits
     relabelled-image relabelled_image
     relabelled-to relabelled_to
+    right-demand right_demand
+    right-fault right_fault
     right-raised right_raised
+    right-then right_then
+    right-wider right_wider
     rounds-in-le rounds_in-le
     rounds-left rounds_left
     rounds-none rounds_none
@@ -246,6 +280,7 @@ NAMES = """
     row-causes row_causes
     row-elsewhere row_elsewhere
     row-fault RowFaults
+    row-right row_right
     row-size row_size
     row-there row_there
     rowAnswer row_answer
@@ -286,15 +321,20 @@ NAMES = """
     setNumber set_number
     settingWith setting_with
     settled-counts settled_counts
+    settled-sound settled_sound
     shared-before shared_before
     small-fits small_fits
+    sound-chained sound_chained
     sound-round sound_round
+    sound-turn sound_turn
     stage-rises stage_rises
+    stages-then stages_then
     standing-sound standing_sound
     start-sound start_sound
     startRegisters start_registers
     startWord start_word
     starts-sound starts_sound
+    step-later step_later
     step-sound step_sound
     stepAnswer step_answer
     stepAt step_at
@@ -309,6 +349,7 @@ NAMES = """
     tail-has tail_has
     targets-inside targets_inside
     throughout-more throughout_more
+    throughout-right throughout_right
     toWhole to_whole
     toWhole-yields to_whole_yields
     together-ends together_ends

@@ -17,35 +17,35 @@ module _ (s : Setting) (inn : Image) (first n : ℕ) (few : n ≤ 64) (words : L
   long : length (batch_words inn first n) ≡ n
   long = length-map-range_with_len (input_words inn) first n
 
-  all-count : take 64 (take (n - 0) words) ≡ batch_words inn first n
-  all-count =
+  all_count : take 64 (take (n - 0) words) ≡ batch_words inn first n
+  all_count =
       let e = long in
       let z : n - 0 ≡ n = omega arith in
       ap (λ k. take 64 (take k words)) z ∙ ap (take 64) given ∙ take_all 64 (batch_words inn first n) (omega arith)
 
-  ends-are : map (lone_run s) (take 64 (take (n - 0) words)) ≡ batch_ends s inn first n
-  ends-are = ap (map (lone_run s)) all-count
+  ends_are : map (lone_run s) (take 64 (take (n - 0) words)) ≡ batch_ends s inn first n
+  ends_are = ap (map (lone_run s)) all_count
 
-  long-ends : length (map (lone_run s) (take 64 (take (n - 0) words))) ≡ n
-  long-ends = ap length ends-are ∙ length-map (batch_words inn first n) (lone_run s) ∙ long
+  long_ends : length (map (lone_run s) (take 64 (take (n - 0) words))) ≡ n
+  long_ends = ap length ends_are ∙ length-map (batch_words inn first n) (lone_run s) ∙ long
 
   -- the first pixels are the ends of the runs by themselves
   pub together_ends : (before pixels : List Pixel) → pixels ≡ ran_together s (take (n - 0) words) before → take n pixels ≡ batch_ends s inn first n
   together_ends before pixels h =
       let ends = map (lone_run s) (take 64 (take (n - 0) words)) in
-      let e = long-ends in
-      ap (take n) h ∙ take-append-le n ends (drop (length (take (n - 0) words)) before) (omega arith) ∙ take_all n ends (omega arith) ∙ ends-are
+      let e = long_ends in
+      ap (take n) h ∙ take-append-le n ends (drop (length (take (n - 0) words)) before) (omega arith) ∙ take_all n ends (omega arith) ∙ ends_are
 
   -- so there are as many
   pub together_long : (before pixels : List Pixel) → pixels ≡ ran_together s (take (n - 0) words) before → n ≤ length pixels
   together_long before pixels h =
-      let e = long-ends in
+      let e = long_ends in
       let a = ap length h ∙ length-append (map (lone_run s) (take 64 (take (n - 0) words))) (drop (length (take (n - 0) words)) before) in
       omega arith
 
   -- the rounds are those of the batch
   pub together_rounds : rounds_of s (take (n - 0) words) ≡ batch_rounds s inn first n
-  together_rounds = ap (λ ws. rounds (machine s) (map (start_of s) ws)) all-count
+  together_rounds = ap (λ ws. rounds (machine s) (map (start_of s) ws)) all_count
 
   -- there are no more rounds than pixels times the largest budget
   pub together_few : s.budget ≤ 65535 → batch_rounds s inn first n ≤ 65535 * n

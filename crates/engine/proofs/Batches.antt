@@ -30,12 +30,12 @@ module _ {X : Type 0} (xs : List X) (n : ℕ) (e : n ≡ min (length xs) 64) whe
 
   module _ {Y : Type 0} (ys : List Y) (full : length ys ≡ 64) where
     -- a list of 64 has as many first elements
-    pub length-counted : length (take (n - 0) ys) ≡ n
-    length-counted = let k : n - 0 ≡ n = omega arith in ap (λ i. length (take i ys)) k ∙ length-take-le n ys (omega arith)
+    pub length_counted : length (take (n - 0) ys) ≡ n
+    length_counted = let k : n - 0 ≡ n = omega arith in ap (λ i. length (take i ys)) k ∙ length-take-le n ys (omega arith)
 
     -- and those after them are those past the entries
-    pub drop-counted : drop (n - 0) ys ≡ drop (length xs) ys
-    drop-counted =
+    pub drop_counted : drop (n - 0) ys ≡ drop (length xs) ys
+    drop_counted =
         elim (cases_lt (length xs) 64) [
           | inl l ↦ let k : n - 0 ≡ length xs = omega arith in ap (λ i. drop i ys) k
           | inr l ↦ drop_all (n - 0) ys (omega arith) ∙ sym (drop_all (length xs) ys (omega arith))

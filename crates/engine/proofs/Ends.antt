@@ -4,7 +4,7 @@ use Rattle.std.specs.Option.{option_map}
 use Rattle.std.specs.List.{AllByRecursion}
 use Rattle.std.proofs.lemmas.Bool.{cases_Bool, true≢false, eqb-false, cond-true, cond-false}
 use Rattle.schedule.specs.Machine.{Ends, Reaches, lone}
-use Rattle.schedule.proofs.LoneRuns.{lone-ends}
+use Rattle.schedule.proofs.LoneRuns.{lone_ends}
 use Rattle.number.specs.Meaning.{Meaning}
 use Rattle.number.specs.declared.kind.Stop.{Stop}
 use Rattle.transform.specs.Kinds.{kind_of}
@@ -120,10 +120,10 @@ module _ (s : Setting) where
       let b = eqb-false k budget u.1 in
       record { unended = u.2; placed = omega (arith, a); here = h; unspent = omega (arith, b) }
 
-  settled-sound : (p : Pixel) (st : Step) (x : Result Effect Ending) → p.steps < budget → st.next < count → Leads count x → Sound s (settled budget p st x)
-  settled-sound p st (Ok (Put w)) u h l = standing_sound _ st.next (p.steps + 1) h (omega arith)
-  settled-sound p st (Ok (Go place)) u h l = standing_sound p.registers place (p.steps + 1) l (omega arith)
-  settled-sound p st (Err e) u h l = λ z. absurd (true≢false z)
+  settled_sound : (p : Pixel) (st : Step) (x : Result Effect Ending) → p.steps < budget → st.next < count → Leads count x → Sound s (settled budget p st x)
+  settled_sound p st (Ok (Put w)) u h l = standing_sound _ st.next (p.steps + 1) h (omega arith)
+  settled_sound p st (Ok (Go place)) u h l = standing_sound p.registers place (p.steps + 1) l (omega arith)
+  settled_sound p st (Err e) u h l = λ z. absurd (true≢false z)
 
   module _ (fit : Fit s.rows s.records) where
     abbrev next : Pixel → Pixel
@@ -139,34 +139,34 @@ module _ (s : Setting) where
         let f = fit p.place r.placed r.here in
         ap (λ o. (taken s.meaning s.table budget p o).steps) f.1.0 ∙ settled_counts budget p f.0 (does p f.0)
 
-    next-sound : (p : Pixel) → Running count budget p → Sound s (next p)
-    next-sound p r =
+    next_sound : (p : Pixel) → Running count budget p → Sound s (next p)
+    next_sound p r =
         let f = fit p.place r.placed r.here in
         let t = f.0 in
         let lead = effect_leads s.meaning s.table t (get_or p.registers t.a 0) (get_or p.registers t.b 0) count f.1.1.next f.1.1.other t.kind in
-        subst (λ o. Sound s (taken s.meaning s.table budget p o)) (sym f.1.0) (settled-sound p t (does p t) r.unspent f.1.1.next lead)
+        subst (λ o. Sound s (taken s.meaning s.table budget p o)) (sym f.1.0) (settled_sound p t (does p t) r.unspent f.1.1.next lead)
 
     -- soundness lasts, and each step brings the steps that are left down
-    pub pixels-end : Ends (machine s) (Sound s)
-    pixels-end = record {
-      kept = λ p g e. next-sound p (g e);
+    pub pixels_end : Ends (machine s) (Sound s)
+    pixels_end = record {
+      kept = λ p g e. next_sound p (g e);
       falls = λ p g e. let u = (g e).unspent in let k = step_counts p (g e) in omega arith;
     }
 
     -- a pixel that is reached counts the steps that led to it
-    reaches-counts : (k : ℕ) (p t : Pixel) → Sound s p → Reaches (machine s) p k t → t.steps ≡ p.steps + k
-    reaches-counts zero p t g r = let e = ap (λ q. q.steps) r.1 in omega arith
-    reaches-counts (suc k) p t g r =
+    reaches_counts : (k : ℕ) (p t : Pixel) → Sound s p → Reaches (machine s) p k t → t.steps ≡ p.steps + k
+    reaches_counts zero p t g r = let e = ap (λ q. q.steps) r.1 in omega arith
+    reaches_counts (suc k) p t g r =
         let u = g r.0 in
-        let ih = reaches-counts k (next p) t (next-sound p u) r.1 in
+        let ih = reaches_counts k (next p) t (next_sound p u) r.1 in
         let c = step_counts p u in
         omega arith
 
     -- from a pixel that has taken no step, the lone run's end is reached in as many steps as it counts
-    pub lone-counted : (p : Pixel) → Sound s p → p.steps ≡ 0 → Reaches (machine s) p (lone (machine s) p).steps (lone (machine s) p)
-    lone-counted p g z =
-        let r = lone-ends (machine s) pixels-end p g in
-        let k : (lone (machine s) p).steps ≡ r.0 = let c = reaches-counts r.0 p (lone (machine s) p) g r.1 in omega arith in
+    pub lone_counted : (p : Pixel) → Sound s p → p.steps ≡ 0 → Reaches (machine s) p (lone (machine s) p).steps (lone (machine s) p)
+    lone_counted p g z =
+        let r = lone_ends (machine s) pixels_end p g in
+        let k : (lone (machine s) p).steps ≡ r.0 = let c = reaches_counts r.0 p (lone (machine s) p) g r.1 in omega arith in
         subst (λ n. Reaches (machine s) p n (lone (machine s) p)) (sym k) r.1
 
 -- a pixel at its start is sound: an accepted transform has a record at place 1

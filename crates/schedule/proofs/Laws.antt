@@ -6,7 +6,7 @@ use Rattle.std.proofs.lemmas.Bool.{cases_Bool, eq-eqb, cond-true}
 use Rattle.schedule.specs.Machine.{Machine, Ends, lone, steps_in, steps}
 use Rattle.schedule.specs.Rounds.{lowest, round, rounds_in, total, rounds}
 use Rattle.schedule.specs.Laws.{Company, Alone, Joined, Bounded, Longest, Cut, Laws, chained}
-use Rattle.schedule.proofs.LoneRuns.{steps_ended, counted-in}
+use Rattle.schedule.proofs.LoneRuns.{steps_ended, counted_in}
 use Rattle.schedule.proofs.Rounds.{split, one_end, rounds_in-le, sound_round, leads_in}
 
 module _ {S : Type 0} (m : Machine S) {Sound : S → Type 0} (law : Ends m Sound) where
@@ -29,24 +29,24 @@ module _ {S : Type 0} (m : Machine S) {Sound : S → Type 0} (law : Ends m Sound
       (omega arith, omega arith, omega arith)
 
   -- a batch of one, of any numbers of rounds and steps that are enough
-  alone-in : (n k : ℕ) (s : S) → Sound s → m.left s ≤ n → m.left s ≤ k → rounds_in m n (s ∷ []) ≡ steps_in m k s
-  alone-in zero k s g hn hk =
+  alone_in : (n k : ℕ) (s : S) → Sound s → m.left s ≤ n → m.left s ≤ k → rounds_in m n (s ∷ []) ≡ steps_in m k s
+  alone_in zero k s g hn hk =
       elim (cases_Bool (m.ended s)) [ inl e ↦ sym (steps_ended m k s e) | inr e ↦ let f = law.falls s g e in absurd (omega arith) ]
-  alone-in (suc n) zero s g hn hk =
+  alone_in (suc n) zero s g hn hk =
       elim (cases_Bool (m.ended s)) [ inl e ↦ rw e refl | inr e ↦ let f = law.falls s g e in absurd (omega arith) ]
-  alone-in (suc n) (suc k) s g hn hk =
+  alone_in (suc n) (suc k) s g hn hk =
       elim (cases_Bool (m.ended s)) [
         | inl e ↦ rw e refl
         | inr e ↦
             let f = law.falls s g e in
-            let ih = alone-in n k (m.step s) (law.kept s g e) (omega arith) (omega arith) in
+            let ih = alone_in n k (m.step s) (law.kept s g e) (omega arith) (omega arith) in
             let t = cond-true (eqb (m.place s) (m.place s)) (m.step s) s (eq-eqb (m.place s) (m.place s) refl) in
             rw e (ap suc (ap (λ x. rounds_in m n (x ∷ [])) t ∙ ih))
       ]
 
   -- a batch of one takes a round for each step
   pub alone : Alone m Sound
-  alone s g = alone-in (total m.left (s ∷ [])) (m.left s) s g (omega arith) (omega arith)
+  alone s g = alone_in (total m.left (s ∷ [])) (m.left s) s g (omega arith) (omega arith)
 
   -- the batch is its states joined one by one
   pub bounded : Bounded m Sound
@@ -86,15 +86,15 @@ module _ {S : Type 0} (m : Machine S) {Sound : S → Type 0} (law : Ends m Sound
       (omega arith, weaker (steps m) (rounds m ss) (rounds m (s ∷ ss)) j.2 ss (longest ss g.1))
 
   -- sound batches in order are sound
-  sound-chained : (bs : List (List S)) → AllByRecursion (AllByRecursion Sound) bs → AllByRecursion Sound (chained bs)
-  sound-chained [] g = tt
-  sound-chained (b ∷ bs) g = All-append Sound b (chained bs) g.0 (sound-chained bs g.1)
+  sound_chained : (bs : List (List S)) → AllByRecursion (AllByRecursion Sound) bs → AllByRecursion Sound (chained bs)
+  sound_chained [] g = tt
+  sound_chained (b ∷ bs) g = All-append Sound b (chained bs) g.0 (sound_chained bs g.1)
 
   -- the whole is its parts joined one by one
   pub cut : Cut m Sound
   cut [] g = (omega arith, tt)
   cut (b ∷ bs) g =
-      let j = joined b (chained bs) g.0 (sound-chained bs g.1) in
+      let j = joined b (chained bs) g.0 (sound_chained bs g.1) in
       let ih = cut bs g.1 in
       let x = j.0 in
       let y = ih.0 in
@@ -102,4 +102,4 @@ module _ {S : Type 0} (m : Machine S) {Sound : S → Type 0} (law : Ends m Sound
 
   -- all laws hold of a machine whose steps bring the steps that are left down
   pub laws : Laws m Sound
-  laws = record { counted = λ s g. counted-in m law (m.left s) s g (omega arith); company = company; alone = alone; joined = joined; bounded = bounded; longest = longest; cut = cut }
+  laws = record { counted = λ s g. counted_in m law (m.left s) s g (omega arith); company = company; alone = alone; joined = joined; bounded = bounded; longest = longest; cut = cut }

@@ -22,55 +22,55 @@ module _ {S : Type 0} (m : Machine S) where
 
   module _ {Sound : S → Type 0} (law : Ends m Sound) where
     -- no end lies further off than the steps that are left
-    pub reached-within : (k : ℕ) (s t : S) → Sound s → Reaches m s k t → k ≤ m.left s
-    reached-within zero s t g r = omega arith
-    reached-within (suc k) s t g r =
-        let ih = reached-within k (m.step s) t (law.kept s g r.0) r.1 in
+    pub reached_within : (k : ℕ) (s t : S) → Sound s → Reaches m s k t → k ≤ m.left s
+    reached_within zero s t g r = omega arith
+    reached_within (suc k) s t g r =
+        let ih = reached_within k (m.step s) t (law.kept s g r.0) r.1 in
         let f = law.falls s g r.0 in
         omega arith
 
     -- the end that is reached from a sound state is its lone run's, however it is reached
-    pub lone-reached : (k : ℕ) (s t : S) → Sound s → Reaches m s k t → lone m s ≡ t
-    lone-reached k s t g r = after_reached k s t r (m.left s) (reached-within k s t g r)
+    pub lone_reached : (k : ℕ) (s t : S) → Sound s → Reaches m s k t → lone m s ≡ t
+    lone_reached k s t g r = after_reached k s t r (m.left s) (reached_within k s t g r)
 
     -- a sound state comes to an end within any number of steps that is not below what is left
-    pub ends-within : (n : ℕ) (s : S) → Sound s → m.left s ≤ n → (k : ℕ) × Reaches m s k (after m n s)
-    ends-within zero s g l =
+    pub ends_within : (n : ℕ) (s : S) → Sound s → m.left s ≤ n → (k : ℕ) × Reaches m s k (after m n s)
+    ends_within zero s g l =
         elim (cases_Bool (m.ended s)) [
           | inl e ↦ (0, (e, refl))
           | inr e ↦ let f = law.falls s g e in absurd (omega arith)
         ]
-    ends-within (suc n) s g l =
+    ends_within (suc n) s g l =
         elim (cases_Bool (m.ended s)) [
           | inl e ↦ (0, (e, sym (after_ended (suc n) s e)))
           | inr e ↦
               let f = law.falls s g e in
-              let ih = ends-within n (m.step s) (law.kept s g e) (omega arith) in
+              let ih = ends_within n (m.step s) (law.kept s g e) (omega arith) in
               (suc ih.0, (e, subst (Reaches m (m.step s) ih.0) (sym (cond-false (m.ended s) s (after m n (m.step s)) e)) ih.1))
         ]
 
     -- a sound state's lone run ends
-    pub lone-ends : (s : S) → Sound s → (k : ℕ) × Reaches m s k (lone m s)
-    lone-ends s g = ends-within (m.left s) s g (omega arith)
+    pub lone_ends : (s : S) → Sound s → (k : ℕ) × Reaches m s k (lone m s)
+    lone_ends s g = ends_within (m.left s) s g (omega arith)
 
     -- a step leaves the end of the lone run as it was
-    pub lone-step : (s : S) → Sound s → m.ended s ≡ false → lone m (m.step s) ≡ lone m s
-    lone-step s g e =
-        let r = lone-ends (m.step s) (law.kept s g e) in
-        sym (lone-reached (suc r.0) s (lone m (m.step s)) g (e, r.1))
+    pub lone_step : (s : S) → Sound s → m.ended s ≡ false → lone m (m.step s) ≡ lone m s
+    lone_step s g e =
+        let r = lone_ends (m.step s) (law.kept s g e) in
+        sym (lone_reached (suc r.0) s (lone m (m.step s)) g (e, r.1))
 
     -- the end lies as many steps off as are taken, of any number that is not below what is left
-    pub counted-in : (n : ℕ) (s : S) → Sound s → m.left s ≤ n → Reaches m s (steps_in m n s) (after m n s)
-    counted-in zero s g l =
+    pub counted_in : (n : ℕ) (s : S) → Sound s → m.left s ≤ n → Reaches m s (steps_in m n s) (after m n s)
+    counted_in zero s g l =
         elim (cases_Bool (m.ended s)) [
           | inl e ↦ (e, refl)
           | inr e ↦ let f = law.falls s g e in absurd (omega arith)
         ]
-    counted-in (suc n) s g l =
+    counted_in (suc n) s g l =
         elim (cases_Bool (m.ended s)) [
           | inl e ↦ rw e (e, refl)
           | inr e ↦
               let f = law.falls s g e in
-              let ih = counted-in n (m.step s) (law.kept s g e) (omega arith) in
+              let ih = counted_in n (m.step s) (law.kept s g e) (omega arith) in
               rw e (e, ih)
         ]

@@ -6,7 +6,7 @@ use Rattle.std.proofs.lemmas.Bool.{cases_Bool, cases_eq, eq-eqb, ne_eqb}
 use Rattle.schedule.specs.Machine.{Machine, Ends, lone}
 use Rattle.schedule.specs.Rounds.{lesser, lowest, turn, round, one_more, rounds_in, total}
 use Rattle.schedule.specs.Laws.{Leads}
-use Rattle.schedule.proofs.LoneRuns.{after_ended, lone-step}
+use Rattle.schedule.proofs.LoneRuns.{after_ended, lone_step}
 use Rattle.schedule.proofs.Lowest.{Past, none_some, some_same, parts, lower-none, lesser_other, lesser-le, lowest_running, lowest_over, lowest-append, past_tail, none_ended}
 
 -- what n rounds of two batches joined are to each of the two
@@ -36,8 +36,8 @@ module _ {S : Type 0} (m : Machine S) where
   turn_away p s e n = rw (e, ne_eqb (m.place s) p n) refl
 
   -- in a batch whose places all lie past p the first state has no turn at p
-  past-turn : (p : ℕ) (s : S) (ss : List S) → Past p (lowest m (s ∷ ss)) → turn m p s ≡ s
-  past-turn p s ss h =
+  past_turn : (p : ℕ) (s : S) (ss : List S) → Past p (lowest m (s ∷ ss)) → turn m p s ≡ s
+  past_turn p s ss h =
       ⊎_elim (turn_over p s)
       (λ e. turn_away p s e (λ q. let h' : p < lesser (m.place s) (lowest m ss) = rw e at h in omega (arith, lesser-le (m.place s) (lowest m ss))))
       (cases_Bool (m.ended s))
@@ -46,7 +46,7 @@ module _ {S : Type 0} (m : Machine S) where
   pub idle : (p : ℕ) (ss : List S) → Past p (lowest m ss) → round m p ss ≡ ss
   idle p [] h = refl
   idle p (s ∷ ss) h =
-      let a = past-turn p s ss h in
+      let a = past_turn p s ss h in
       let b = idle p ss (past_tail m p s ss h) in
       cc
 
@@ -126,23 +126,23 @@ module _ {S : Type 0} (m : Machine S) where
       (ap suc t.0, t.1)
 
   -- one more than n at most
-  one-more-le : (n : ℕ) (o : Option ℕ) (next : ℕ → ℕ) → ((p : ℕ) → next p ≤ n) → one_more o next ≤ suc n
-  one-more-le n None next h = omega arith
-  one-more-le n (Some p) next h = let k = h p in omega arith
+  one_more-le : (n : ℕ) (o : Option ℕ) (next : ℕ → ℕ) → ((p : ℕ) → next p ≤ n) → one_more o next ≤ suc n
+  one_more-le n None next h = omega arith
+  one_more-le n (Some p) next h = let k = h p in omega arith
 
   -- of n rounds at most there are n at most
   pub rounds_in-le : (n : ℕ) (ss : List S) → rounds_in m n ss ≤ n
   rounds_in-le zero ss = omega arith
-  rounds_in-le (suc n) ss = one-more-le n (lowest m ss) (λ p. rounds_in m n (round m p ss)) (λ p. rounds_in-le n (round m p ss))
+  rounds_in-le (suc n) ss = one_more-le n (lowest m ss) (λ p. rounds_in m n (round m p ss)) (λ p. rounds_in-le n (round m p ss))
 
 module _ {S : Type 0} (m : Machine S) {Sound : S → Type 0} (law : Ends m Sound) where
   -- a turn leaves the end of the lone run as it was
-  lone-turn : (p : ℕ) (s : S) → Sound s → lone m (turn m p s) ≡ lone m s
-  lone-turn p s g =
+  lone_turn : (p : ℕ) (s : S) → Sound s → lone m (turn m p s) ≡ lone m s
+  lone_turn p s g =
       elim (cases_Bool (m.ended s)) [
         | inl e ↦ ap (lone m) (turn_over m p s e)
         | inr e ↦ elim (cases_eq (m.place s) p) [
-          | inl q ↦ ap (lone m) (turn_here m p s e q) ∙ lone-step m law s g e
+          | inl q ↦ ap (lone m) (turn_here m p s e q) ∙ lone_step m law s g e
           | inr q ↦ ap (lone m) (turn_away m p s e q)
         ]
       ]
@@ -150,11 +150,11 @@ module _ {S : Type 0} (m : Machine S) {Sound : S → Type 0} (law : Ends m Sound
   -- so does a round
   pub lone_round : (p : ℕ) (ss : List S) → AllByRecursion Sound ss → map (lone m) (round m p ss) ≡ map (lone m) ss
   lone_round p [] g = refl
-  lone_round p (s ∷ ss) g = let a = lone-turn p s g.0 in let b = lone_round p ss g.1 in cc
+  lone_round p (s ∷ ss) g = let a = lone_turn p s g.0 in let b = lone_round p ss g.1 in cc
 
   -- soundness lasts
-  sound-turn : (p : ℕ) (s : S) → Sound s → Sound (turn m p s)
-  sound-turn p s g =
+  sound_turn : (p : ℕ) (s : S) → Sound s → Sound (turn m p s)
+  sound_turn p s g =
       elim (cases_Bool (m.ended s)) [
         | inl e ↦ subst Sound (sym (turn_over m p s e)) g
         | inr e ↦ elim (cases_eq (m.place s) p) [
@@ -166,11 +166,11 @@ module _ {S : Type 0} (m : Machine S) {Sound : S → Type 0} (law : Ends m Sound
   -- soundness lasts over a round
   pub sound_round : (p : ℕ) (ss : List S) → AllByRecursion Sound ss → AllByRecursion Sound (round m p ss)
   sound_round p [] g = tt
-  sound_round p (s ∷ ss) g = (sound-turn p s g.0, sound_round p ss g.1)
+  sound_round p (s ∷ ss) g = (sound_turn p s g.0, sound_round p ss g.1)
 
   -- no turn adds steps that are left
-  left-turn : (p : ℕ) (s : S) → Sound s → m.left (turn m p s) ≤ m.left s
-  left-turn p s g =
+  left_turn : (p : ℕ) (s : S) → Sound s → m.left (turn m p s) ≤ m.left s
+  left_turn p s g =
       elim (cases_Bool (m.ended s)) [
         | inl e ↦ rw (turn_over m p s e) (omega arith)
         | inr e ↦ elim (cases_eq (m.place s) p) [
@@ -180,17 +180,17 @@ module _ {S : Type 0} (m : Machine S) {Sound : S → Type 0} (law : Ends m Sound
       ]
 
   -- nor does a round
-  left-round : (p : ℕ) (ss : List S) → AllByRecursion Sound ss → total m.left (round m p ss) ≤ total m.left ss
-  left-round p [] g = omega arith
-  left-round p (s ∷ ss) g = omega (arith, left-turn p s g.0, left-round p ss g.1)
+  left_round : (p : ℕ) (ss : List S) → AllByRecursion Sound ss → total m.left (round m p ss) ≤ total m.left ss
+  left_round p [] g = omega arith
+  left_round p (s ∷ ss) g = omega (arith, left_turn p s g.0, left_round p ss g.1)
 
   -- a round takes a step at least
   pub left_falls : (p : ℕ) (ss : List S) → AllByRecursion Sound ss → lowest m ss ≡ Some p → total m.left (round m p ss) < total m.left ss
   left_falls p [] g h = none_some p h
   left_falls p (s ∷ ss) g h =
       let ih = left_falls p ss g.1 in
-      let a = left-turn p s g.0 in
-      let b = left-round p ss g.1 in
+      let a = left_turn p s g.0 in
+      let b = left_round p ss g.1 in
       elim (cases_Bool (m.ended s)) [
         | inl e ↦ omega (arith, a, ih (sym (lowest_over m s ss e) ∙ h))
         | inr e ↦ elim (cases_eq (m.place s) p) [

@@ -71,20 +71,20 @@ module _ (rows : List Row) (records : List Record) (table : List ℕ) where
       }
 
   -- where every rule is kept, no fault is there
-  none-broken : Keeps rows records table → (g : Fault) → Breaks rows records table g → ⊥
-  none-broken k (Rows RowFaults.Count) b = both_ways (row_count_suits rows) b (within_from 1 most_rows (length rows) k.rows_counted)
-  none-broken k (Rows (RowFaults.Unknown i)) b = both_ways (row_known (row_at rows i)) b.1 (k.rows_known i b.0)
-  none-broken k (Rows (RowFaults.Channel i)) b = both_ways (channel_suits (row_at rows i)) b.1 (k.channels_suit i b.0)
-  none-broken k (Rows (RowFaults.Word i)) b = both_ways (word_suits (row_at rows i)) b.1 (k.words_suit i b.0)
-  none-broken k (Rows (RowFaults.RepeatedOut i)) b = k.outs_apart b.1.0 i b.1.1.0 b.0 b.1.1.1
-  none-broken k (Records RecordFaults.Count) b = both_ways (record_count_suits records) b (within_from 2 most_records (length records) k.records_counted)
-  none-broken k (Records RecordFaults.FirstNotZero) b = both_ways (all_zero (record_at records 0)) b k.first_zero
-  none-broken k (Records (RecordFaults.Kind i)) b = not_none (kind_of (record_at records i).kind) (k.kinds_known i b.0 b.1) b.2
-  none-broken k (Records (RecordFaults.Target i)) b = both_ways (leads_inside (fields_of b.0) (length records) (record_at records i)) b.1.3 (k.targets_inside i b.0 b.1.0 b.1.1 b.1.2)
-  none-broken k (Records (RecordFaults.Field i)) b = both_ways (record_fields_suit (fields_of b.0) (length rows) (record_at records i)) b.1.3 (k.fields_suit i b.0 b.1.0 b.1.1 b.1.2)
-  none-broken k (Records (RecordFaults.Types i)) b = both_ways (record_types_suit b.0 rows (record_at records i)) b.1.3 (k.types_suit i b.0 b.1.0 b.1.1 b.1.2)
-  none-broken k (Records (RecordFaults.ReadOnly i)) b = both_ways (record_writes_suit (fields_of b.0) rows (record_at records i)) b.1.3 (k.writes_suit i b.0 b.1.0 b.1.1 b.1.2)
-  none-broken k (Table f) b = both_ways (table_length_suits table) b (le-leb (length table) most_words k.table_counted)
+  none_broken : Keeps rows records table → (g : Fault) → Breaks rows records table g → ⊥
+  none_broken k (Rows RowFaults.Count) b = both_ways (row_count_suits rows) b (within_from 1 most_rows (length rows) k.rows_counted)
+  none_broken k (Rows (RowFaults.Unknown i)) b = both_ways (row_known (row_at rows i)) b.1 (k.rows_known i b.0)
+  none_broken k (Rows (RowFaults.Channel i)) b = both_ways (channel_suits (row_at rows i)) b.1 (k.channels_suit i b.0)
+  none_broken k (Rows (RowFaults.Word i)) b = both_ways (word_suits (row_at rows i)) b.1 (k.words_suit i b.0)
+  none_broken k (Rows (RowFaults.RepeatedOut i)) b = k.outs_apart b.1.0 i b.1.1.0 b.0 b.1.1.1
+  none_broken k (Records RecordFaults.Count) b = both_ways (record_count_suits records) b (within_from 2 most_records (length records) k.records_counted)
+  none_broken k (Records RecordFaults.FirstNotZero) b = both_ways (all_zero (record_at records 0)) b k.first_zero
+  none_broken k (Records (RecordFaults.Kind i)) b = not_none (kind_of (record_at records i).kind) (k.kinds_known i b.0 b.1) b.2
+  none_broken k (Records (RecordFaults.Target i)) b = both_ways (leads_inside (fields_of b.0) (length records) (record_at records i)) b.1.3 (k.targets_inside i b.0 b.1.0 b.1.1 b.1.2)
+  none_broken k (Records (RecordFaults.Field i)) b = both_ways (record_fields_suit (fields_of b.0) (length rows) (record_at records i)) b.1.3 (k.fields_suit i b.0 b.1.0 b.1.1 b.1.2)
+  none_broken k (Records (RecordFaults.Types i)) b = both_ways (record_types_suit b.0 rows (record_at records i)) b.1.3 (k.types_suit i b.0 b.1.0 b.1.1 b.1.2)
+  none_broken k (Records (RecordFaults.ReadOnly i)) b = both_ways (record_writes_suit (fields_of b.0) rows (record_at records i)) b.1.3 (k.writes_suit i b.0 b.1.0 b.1.1 b.1.2)
+  none_broken k (Table f) b = both_ways (table_length_suits table) b (le-leb (length table) most_words k.table_counted)
 
   -- what the check accepts keeps every rule
   pub kept : passes (checked rows records table) ≡ true → Keeps rows records table
@@ -92,7 +92,7 @@ module _ (rows : List Row) (records : List Record) (table : List ℕ) where
 
   -- what keeps every rule is accepted
   pub accepts : (r : Answer Fault) → r ≡ checked rows records table → Keeps rows records table → passes r ≡ true
-  accepts r h k = ok_unless r (λ f e. none-broken k f ((checked_right rows records table).found f (sym h ∙ e)).1)
+  accepts r h k = ok_unless r (λ f e. none_broken k f ((checked_right rows records table).found f (sym h ∙ e)).1)
 
   -- the check's answer is right
   pub judged : (r : Answer Fault) → r ≡ checked rows records table → Judged rows records table r

@@ -86,77 +86,77 @@ module _ (Broken : Fault → Type 0) where
 
   module _ {F : Type 0} (up : F → Fault) where
     -- a region may lose what is not broken
-    pub right-wider : (A B : Fault → Type 0) (x : Answer F) → ((g : Fault) → B g → Broken g → A g) → ((g : Fault) → A g → B g) → Right Broken up A x → Right Broken up B x
-    right-wider A B x back on r =
+    pub right_wider : (A B : Fault → Type 0) (x : Answer F) → ((g : Fault) → B g → Broken g → A g) → ((g : Fault) → A g → B g) → Right Broken up A x → Right Broken up B x
+    right_wider A B x back on r =
         record {
           clear = λ e g b broken. r.clear e g (back g b broken) broken;
           found = λ f e. let q = r.found f e in (on (up f) q.0, q.1, λ g b p broken. q.2 g (back g b broken) p broken);
         }
 
     -- two answers, one after the other, are right about both regions
-    pub right-then : (A B : Fault → Type 0) (x y : Answer F) → ((f g : Fault) → A f → B g → Precedes g f → ⊥) → Right Broken up A x → Right Broken up B y → Right Broken up (λ g. A g ⊎ B g) (x and_then y)
-    right-then A B (Ok u) y order r s =
+    pub right_then : (A B : Fault → Type 0) (x y : Answer F) → ((f g : Fault) → A f → B g → Precedes g f → ⊥) → Right Broken up A x → Right Broken up B y → Right Broken up (λ g. A g ⊎ B g) (x and_then y)
+    right_then A B (Ok u) y order r s =
         record {
           clear = λ e g c broken. ⊎_elim (λ a. r.clear refl g a broken) (λ b. s.clear e g b broken) c;
           found = λ f e. let q = s.found f e in (inr q.0, q.1, λ g c p broken. ⊎_elim (λ a. r.clear refl g a broken) (λ b. q.2 g b p broken) c);
         }
-    right-then A B (Err h) y order r s =
+    right_then A B (Err h) y order r s =
         record {
           clear = λ e. absurd (let z : ◌≡◌ {A = ℕ} 0 1 = cc in omega arith);
           found = λ f e. let q = r.found f e in (inl q.0, q.1, λ g c p broken. ⊎_elim (λ a. q.2 g a p broken) (λ b. order (up f) g q.0 b p) c);
         }
 
     -- a fault that comes before every other of its region
-    pub right-fault : (A : Fault → Type 0) (f : F) → A (up f) → Broken (up f) → ((g : Fault) → A g → Precedes g (up f) → ⊥) → Right Broken up A (Err f)
-    right-fault A f a broken least =
+    pub right_fault : (A : Fault → Type 0) (f : F) → A (up f) → Broken (up f) → ((g : Fault) → A g → Precedes g (up f) → ⊥) → Right Broken up A (Err f)
+    right_fault A f a broken least =
         record {
           clear = λ e. absurd (let z : ◌≡◌ {A = ℕ} 0 1 = cc in omega arith);
           found = λ h e. let q : f ≡ h = cc in subst (λ h. A (up h) × Broken (up h) × ((g : Fault) → A g → Precedes g (up h) → Broken g → ⊥)) q (a, broken, λ g b p _. least g b p);
         }
 
     -- a rule that is kept exactly where the one fault of the region is not there
-    pub right-demand : (A : Fault → Type 0) (f : F) (kept : Bool) → A (up f) → ((g : Fault) → A g → g ≡ up f) → (Broken (up f) → kept ≡ false) → (kept ≡ false → Broken (up f)) → Right Broken up A (demand kept f)
-    right-demand A f true a only fails breaks =
+    pub right_demand : (A : Fault → Type 0) (f : F) (kept : Bool) → A (up f) → ((g : Fault) → A g → g ≡ up f) → (Broken (up f) → kept ≡ false) → (kept ≡ false → Broken (up f)) → Right Broken up A (demand kept f)
+    right_demand A f true a only fails breaks =
         record { clear = λ e g b broken. true≢false (fails (subst Broken (only g b) broken)); found = λ h e. absurd (let z : ◌≡◌ {A = ℕ} 0 1 = cc in omega arith) }
-    right-demand A f false a only fails breaks =
-        right-fault A f a (breaks refl) (λ g b p. same_place (up f) g (omega (arith, ap cause (only g b))) (sym (ap place (only g b))) p)
+    right_demand A f false a only fails breaks =
+        right_fault A f a (breaks refl) (λ g b p. same_place (up f) g (omega (arith, ap cause (only g b))) (sym (ap place (only g b))) p)
 
     -- a demand of a fault that has no place of its own
-    pub lone-demand : (f : F) (kept : Bool) → ((i : ℕ) → fault_of (cause (up f)) i ≡ up f) → (Broken (up f) → kept ≡ false) → (kept ≡ false → Broken (up f)) → Right Broken up (Causes (cause (up f)) (cause (up f))) (demand kept f)
-    lone-demand f kept alone = right-demand (Causes (cause (up f)) (cause (up f))) f kept (omega arith, omega arith) (λ g c. let e : cause g ≡ cause (up f) = omega (arith, c.0, c.1) in told g ∙ ap (λ k. fault_of k (place g)) e ∙ alone (place g))
+    pub lone_demand : (f : F) (kept : Bool) → ((i : ℕ) → fault_of (cause (up f)) i ≡ up f) → (Broken (up f) → kept ≡ false) → (kept ≡ false → Broken (up f)) → Right Broken up (Causes (cause (up f)) (cause (up f))) (demand kept f)
+    lone_demand f kept alone = right_demand (Causes (cause (up f)) (cause (up f))) f kept (omega arith, omega arith) (λ g c. let e : cause g ≡ cause (up f) = omega (arith, c.0, c.1) in told g ∙ ap (λ k. fault_of k (place g)) e ∙ alone (place g))
 
     -- the demand of a place's last cause
-    pub last-demand : (f : F) (kept : Bool) → (Broken (up f) → kept ≡ false) → (kept ≡ false → Broken (up f)) → Right Broken up (At (cause (up f)) (cause (up f)) (place (up f))) (demand kept f)
-    last-demand f kept = right-demand (At (cause (up f)) (cause (up f)) (place (up f))) f kept (omega arith, omega arith, refl) (λ g c. same_fault (up f) g (omega (arith, c.0, c.1)) c.2)
+    pub last_demand : (f : F) (kept : Bool) → (Broken (up f) → kept ≡ false) → (kept ≡ false → Broken (up f)) → Right Broken up (At (cause (up f)) (cause (up f)) (place (up f))) (demand kept f)
+    last_demand f kept = right_demand (At (cause (up f)) (cause (up f)) (place (up f))) f kept (omega arith, omega arith, refl) (λ g c. same_fault (up f) g (omega (arith, c.0, c.1)) c.2)
 
     -- the demand of a cause before those that follow at the place
-    pub demand-then : (f : F) (kept : Bool) (l : ℕ) (y : Answer F) → cause (up f) ≤ l → (Broken (up f) → kept ≡ false) → (kept ≡ false → Broken (up f)) → Right Broken up (At (suc (cause (up f))) l (place (up f))) y → Right Broken up (At (cause (up f)) l (place (up f))) (demand kept f and_then y)
-    demand-then f kept l y h fails breaks r =
+    pub demand_then : (f : F) (kept : Bool) (l : ℕ) (y : Answer F) → cause (up f) ≤ l → (Broken (up f) → kept ≡ false) → (kept ≡ false → Broken (up f)) → Right Broken up (At (suc (cause (up f))) l (place (up f))) y → Right Broken up (At (cause (up f)) l (place (up f))) (demand kept f and_then y)
+    demand_then f kept l y h fails breaks r =
         let k = cause (up f) in
         let i = place (up f) in
-        right-wider (λ g. At k k i g ⊎ At (suc k) l i g) (At k l i) (demand kept f and_then y)
+        right_wider (λ g. At k k i g ⊎ At (suc k) l i g) (At k l i) (demand kept f and_then y)
         (λ g c _. ⊎_elim (λ m. inl (c.0, omega arith, c.2)) (λ m. inr (m, c.1, c.2)) (cases_lt (cause g) (suc k)))
         (λ g c. ⊎_elim (λ a. (a.0, omega (arith, a.1), a.2)) (λ b. (omega (arith, b.0), b.1, b.2)) c)
-        (right-then (At k k i) (At (suc k) l i) (demand kept f) y (λ f g a b p. same_place f g (omega (arith, a.1, b.0)) (a.2 ∙ sym b.2) p) (last-demand f kept fails breaks) r)
+        (right_then (At k k i) (At (suc k) l i) (demand kept f) y (λ f g a b p. same_place f g (omega (arith, a.1, b.0)) (a.2 ∙ sym b.2) p) (last_demand f kept fails breaks) r)
 
     -- one stage after another
-    pub stages-then : (k m l : ℕ) (x y : Answer F) → stage m < stage (suc m) → k ≤ m → m < l → Right Broken up (Causes k m) x → Right Broken up (Causes (suc m) l) y → Right Broken up (Causes k l) (x and_then y)
-    stages-then k m l x y rises low high r s =
-        right-wider (λ g. Causes k m g ⊎ Causes (suc m) l g) (Causes k l) (x and_then y)
+    pub stages_then : (k m l : ℕ) (x y : Answer F) → stage m < stage (suc m) → k ≤ m → m < l → Right Broken up (Causes k m) x → Right Broken up (Causes (suc m) l) y → Right Broken up (Causes k l) (x and_then y)
+    stages_then k m l x y rises low high r s =
+        right_wider (λ g. Causes k m g ⊎ Causes (suc m) l g) (Causes k l) (x and_then y)
         (λ g c _. ⊎_elim (λ h. inl (c.0, omega arith)) (λ h. inr (h, c.1)) (cases_lt (cause g) (suc m)))
         (λ g c. ⊎_elim (λ a. (a.0, omega (arith, a.1))) (λ b. (omega (arith, b.0), b.1)) c)
-        (right-then (Causes k m) (Causes (suc m) l) x y (λ f g a b p. later_stage f g (omega (arith, stage_rises (cause f) m a.1, stage_rises (suc m) (cause g) b.0)) p) r s)
+        (right_then (Causes k m) (Causes (suc m) l) x y (λ f g a b p. later_stage f g (omega (arith, stage_rises (cause f) m a.1, stage_rises (suc m) (cause g) b.0)) p) r s)
 
     -- place after place, at one stage
-    pub throughout-right : (k l : ℕ) (at : ℕ → Answer F) → stage k ≡ stage l → (n : ℕ) → ((i : ℕ) → i < n → Right Broken up (At k l i) (at i)) → Right Broken up (Below k l n) (throughout at n)
-    throughout-right k l at same zero r = record { clear = λ e g c broken. omega (arith, c.2); found = λ f e. absurd (let z : ◌≡◌ {A = ℕ} 0 1 = cc in omega arith) }
-    throughout-right k l at same (suc n) r =
-        right-wider (λ g. Below k l n g ⊎ At k l n g) (Below k l (suc n)) (throughout at n and_then at n)
+    pub throughout_right : (k l : ℕ) (at : ℕ → Answer F) → stage k ≡ stage l → (n : ℕ) → ((i : ℕ) → i < n → Right Broken up (At k l i) (at i)) → Right Broken up (Below k l n) (throughout at n)
+    throughout_right k l at same zero r = record { clear = λ e g c broken. omega (arith, c.2); found = λ f e. absurd (let z : ◌≡◌ {A = ℕ} 0 1 = cc in omega arith) }
+    throughout_right k l at same (suc n) r =
+        right_wider (λ g. Below k l n g ⊎ At k l n g) (Below k l (suc n)) (throughout at n and_then at n)
         (λ g c _. ⊎_elim (λ h. inl (c.0, c.1, h)) (λ h. inr (c.0, c.1, omega (arith, c.2))) (cases_lt (place g) n))
         (λ g c. ⊎_elim (λ a. (a.0, a.1, omega (arith, a.2))) (λ b. (b.0, b.1, omega (arith, b.2))) c)
-        (right-then (Below k l n) (At k l n) (throughout at n) (at n)
+        (right_then (Below k l n) (At k l n) (throughout at n) (at n)
         (λ f g a b p.
         later_place f g
         (omega (arith, same, stage_rises k (cause f) a.0, stage_rises (cause f) l a.1, stage_rises k (cause g) b.0, stage_rises (cause g) l b.1))
         (omega (arith, a.2, b.2)) p)
-        (throughout-right k l at same n (λ i h. r i (omega arith))) (r n (omega arith)))
+        (throughout_right k l at same n (λ i h. r i (omega arith))) (r n (omega arith)))

@@ -5,7 +5,7 @@ use Rattle.schedule.specs.Rounds.{lowest, rounds}
 use Rattle.schedule.proofs.Rounds.{lone_round, lone-none, sound_round}
 use Rattle.schedule.proofs.Laws.{rounds_step, rounds_none, rounds_left}
 use Rattle.engine.specs.Runs.{setting_of, machine, Sound}
-use Rattle.engine.proofs.Ends.{accepted_fit, pixels-end}
+use Rattle.engine.proofs.Ends.{accepted_fit, pixels_end}
 use Rattle.engine.proofs.Batches.{lowest_here, total_left}
 use Rattle.engine.proofs.batch.run_rounds.Goals as goal
 
@@ -19,7 +19,7 @@ run_round-low-requires g c =
 pub overflow_add-count : goal.overflow_add-count
 overflow_add-count g c =
     let s = setting_of g.K.NumberKind.meaning c.args.transform.now c.args.budget [] in
-    let law = pixels-end s (accepted_fit c.args.transform.now) in
+    let law = pixels_end s (accepted_fit c.args.transform.now) in
     let xs = c.args.pixels.now in
     let budget = c.args.budget.steps in
     let few = c.requires.few in
@@ -33,7 +33,7 @@ overflow_add-count g c =
 pub loop-low-smaller : goal.loop-low-smaller
 loop-low-smaller g c =
     let s = setting_of g.K.NumberKind.meaning c.args.transform.now c.args.budget [] in
-    let law = pixels-end s (accepted_fit c.args.transform.now) in
+    let law = pixels_end s (accepted_fit c.args.transform.now) in
     let inv = c.loop-low.invariant in
     let one = rounds_step (machine s) law c.in-Some.place c.loop-low.pixels inv.0 (sym inv.1 ∙ c.in-Some.is) in
     let next = ap (rounds (machine s)) c.run_round-low.ensures.after in
@@ -42,7 +42,7 @@ loop-low-smaller g c =
 pub loop-low-preserved : goal.loop-low-preserved
 loop-low-preserved g c =
     let s = setting_of g.K.NumberKind.meaning c.args.transform.now c.args.budget [] in
-    let law = pixels-end s (accepted_fit c.args.transform.now) in
+    let law = pixels_end s (accepted_fit c.args.transform.now) in
     let inv = c.loop-low.invariant in
     let place = c.in-Some.place in
     let ys = c.loop-low.pixels in
@@ -59,7 +59,7 @@ loop-low-preserved g c =
 pub returns : goal.returns
 returns g c =
     let s = setting_of g.K.NumberKind.meaning c.args.transform.now c.args.budget [] in
-    let law = pixels-end s (accepted_fit c.args.transform.now) in
+    let law = pixels_end s (accepted_fit c.args.transform.now) in
     let inv = c.loop-low.invariant in
     let ys = c.loop-low.pixels in
     let none : lowest (machine s) ys ≡ None = sym inv.1 ∙ c.in_default.is in

@@ -6,8 +6,8 @@ use Rattle.schedule.specs.Machine.{lone}
 use Rattle.schedule.specs.Rounds.{rounds}
 use Rattle.schedule.proofs.Laws.{laws}
 use Rattle.engine.specs.Runs.{setting_of, machine, start_of, Sound}
-use Rattle.engine.proofs.Ends.{accepted_fit, start_sound, starts_sound, pixels-end}
-use Rattle.engine.proofs.Batches.{take_counted, length-counted, drop-counted}
+use Rattle.engine.proofs.Ends.{accepted_fit, start_sound, starts_sound, pixels_end}
+use Rattle.engine.proofs.Batches.{take_counted, length_counted, drop_counted}
 use Rattle.engine.proofs.batch.run_together.Goals as goal
 
 pub run_rounds-requires : goal.run_rounds-requires
@@ -17,7 +17,7 @@ run_rounds-requires g c =
     let inputs = c.args.inputs.now in
     let n = c.min-count.result in
     let counts = c.min-count.ensures in
-    let k = length-counted inputs n counts c.args.batch.now.pixels full in
+    let k = length_counted inputs n counts c.args.batch.now.pixels full in
     let start = c.start_all.ensures ∙ ap (λ i. map (start_of s) (take i inputs)) k in
     let long = ap length start ∙ length-map (take n inputs) (start_of s) ∙ length-take-le n inputs (omega arith) in
     record {
@@ -34,11 +34,11 @@ returns g c =
     let n = c.min-count.result in
     let counts = c.min-count.ensures in
     let start : c.start_all.new.pixels ≡ map (start_of s) (take 64 inputs) =
-    c.start_all.ensures ∙ ap (λ i. map (start_of s) (take i inputs)) (length-counted inputs n counts ps full) ∙ ap (map (start_of s)) (take_counted inputs n counts) in
+    c.start_all.ensures ∙ ap (λ i. map (start_of s) (take i inputs)) (length_counted inputs n counts ps full) ∙ ap (map (start_of s)) (take_counted inputs n counts) in
     let end = c.run_rounds.ensures.ends ∙ ap (map (lone (machine s))) start ∙ map-map (lone (machine s)) (start_of s) (take 64 inputs) in
     record {
-      ends = λ j. end j ++ drop-counted inputs n counts ps full j;
+      ends = λ j. end j ++ drop_counted inputs n counts ps full j;
       count = c.run_rounds.ensures.count ∙ ap (rounds (machine s)) start;
       sound = λ words. start_sound g.K.NumberKind.meaning c.args.transform.now c.args.budget c.args.uniforms.now words;
-      laws = laws (machine s) (pixels-end s (accepted_fit c.args.transform.now));
+      laws = laws (machine s) (pixels_end s (accepted_fit c.args.transform.now));
     }
