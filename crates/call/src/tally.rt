@@ -18,7 +18,8 @@ pub struct Tally {
 impl Tally {
     // Counts the endings of some marks.
     fn count_endings(&mut self, marks: &[Mark])
-        requires { (Sound self.old) × (length marks.now ≤ most_served) }
+        requires sound { Sound self.old }
+        requires room { length marks.now ≤ most_served }
         ensures { Counted self.old marks.now self.new }
     {
         for mark in marks {
@@ -28,7 +29,8 @@ impl Tally {
 
     // Adds pixels that were served, and their rounds.
     fn add(&mut self, pixels: u32, rounds: u32)
-        requires { (self.old.served + pixels < 2 ^ 32) × (self.old.rounds + rounds < 2 ^ 64) }
+        requires served { self.old.served + pixels < 2 ^ 32 }
+        requires rounds { self.old.rounds + rounds < 2 ^ 64 }
         ensures { self.new ≡ added self.old pixels rounds }
     {
         self.served += pixels;

@@ -7,6 +7,7 @@ use call::open::Open;
 use call::refusal::RunRefusal;
 use frame::field::Field;
 use frame::planar::Planar;
+use number::fixed::Fixed;
 
 #[cfg(test)]
 mod runs;
@@ -36,5 +37,5 @@ fn run_field(
     marks: &mut [Mark],
 ) -> Result<Answer, RunRefusal> {
     let count = marks.len();
-    call.run::<number::fixed::Fixed, Field, Planar>(input, output, first, count, marks)
+    call.run::<Fixed, Field, Planar>(input, output, first, count, marks)
 }

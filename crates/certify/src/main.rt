@@ -10,6 +10,8 @@ mod words;
 use anyhow::anyhow;
 use certificate::Certificate;
 use engine::budget::Budget;
+use number::fixed::Fixed;
+use number::float::Float;
 use number::kind::NumberKind;
 use patch::PATCHES;
 use std::env;
@@ -37,8 +39,8 @@ fn certify<K: NumberKind>(rt: &HostRuntime, kind: &str) -> anyhow::Result<()> {
 
 fn certify_named(rt: &HostRuntime, kind: &str) -> anyhow::Result<()> {
     match kind {
-        "fixed" => certify::<number::fixed::Fixed>(rt, kind),
-        "float" => certify::<number::float::Float>(rt, kind),
+        "fixed" => certify::<Fixed>(rt, kind),
+        "float" => certify::<Float>(rt, kind),
         _ => Err(anyhow!("the kind should be fixed or float")),
     }
 }

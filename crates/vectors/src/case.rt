@@ -1,5 +1,7 @@
 //! A case, as one line has it: `KIND OPERATION A [B] EXPECTED`.
 use crate::answer::{Answer, Operation, on_numbers, on_wholes};
+use number::fixed::Fixed;
+use number::float::Float;
 
 /// What the words of a case are.
 #[derive(Clone, Copy)]
@@ -23,8 +25,8 @@ impl Case {
     /// What the engine's arithmetic answers; none where the kind does not have the operation.
     pub fn answer(self) -> Option<Answer> {
         match self.kind {
-            Kind::Float => on_numbers::<number::float::Float>(self.operation, self.a, self.b),
-            Kind::Fixed => on_numbers::<number::fixed::Fixed>(self.operation, self.a, self.b),
+            Kind::Float => on_numbers::<Float>(self.operation, self.a, self.b),
+            Kind::Fixed => on_numbers::<Fixed>(self.operation, self.a, self.b),
             Kind::Whole => on_wholes(self.operation, self.a, self.b),
         }
     }

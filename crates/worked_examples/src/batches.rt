@@ -1,6 +1,7 @@
 //! Pixels that run together: docs/RULES.md, "Rounds" and "The built-in transform". The expected rounds are worked out by hand.
 use engine::batch::{Batch, run_together};
 use engine::budget::Budget;
+use number::fixed::Fixed;
 use std::test::Fail;
 use transform::fork;
 
@@ -27,7 +28,7 @@ fn seen(batch: &Batch, index: usize) -> (u8, u16, u16, u32) {
 
 fn rounds(steps: u16, inputs: &[[u32; 8]], batch: &mut Batch) -> Result<u32, Fail> {
     let budget = Budget::new(steps)?;
-    Ok(run_together::<number::fixed::Fixed>(&fork(), budget, &[], inputs, batch))
+    Ok(run_together::<Fixed>(&fork(), budget, &[], inputs, batch))
 }
 
 #[test]

@@ -1,6 +1,7 @@
 //! Runs of one pixel by itself: docs/RULES.md, "One pixel" and "The built-in transform". The expected words are worked out by hand.
 use engine::budget::Budget;
 use engine::pixel::{Pixel, run_alone};
+use number::fixed::Fixed;
 use std::test::Fail;
 use transform::{Accepted, Record, Row, check, fork};
 
@@ -217,7 +218,7 @@ fn seen(pixel: Pixel) -> Result<Seen, Fail> {
 
 fn run(transform: &Accepted, steps: u16, uniforms: &[u32], input: u32) -> Result<Seen, Fail> {
     let budget = Budget::new(steps)?;
-    seen(run_alone::<number::fixed::Fixed>(transform, budget, uniforms, &[input]))
+    seen(run_alone::<Fixed>(transform, budget, uniforms, &[input]))
 }
 
 // One pixel under the rows above, these records and the table.

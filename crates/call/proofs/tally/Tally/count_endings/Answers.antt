@@ -12,7 +12,7 @@ overflow_add-self c =
     let is = c.loop-mark.invariant.endings n less in
     let few = ended-le n ms in
     let long : length ms ≡ c.loop-mark.mark-index = length-take-le c.loop-mark.mark-index c.args.marks.now c.loop-mark.auto.mark-index-end in
-    omega (arith, c.requires.0.1 n, c.requires.0.0, c.requires.1)
+    omega (arith, c.requires.sound.1 n, c.requires.sound.0, c.requires.room)
 
 pub loop-mark-preserved : goal.loop-mark-preserved
 loop-mark-preserved c =

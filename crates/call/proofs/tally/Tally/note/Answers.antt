@@ -5,7 +5,10 @@ use Rattle.call.proofs.tally.Tally.note.Goals as goal
 pub add-requires : goal.add-requires
 add-requires c =
     let k = c.count_endings.ensures in
-    (omega (arith, k.served, c.requires.room), omega (arith, k.rounds, c.requires.sound.0, c.requires.sound.2, c.ranges.rounds))
+    record {
+      served = omega (arith, k.served, c.requires.room);
+      rounds = omega (arith, k.rounds, c.requires.sound.0, c.requires.sound.2, c.ranges.rounds);
+    }
 
 pub returns : goal.returns
 returns c =
