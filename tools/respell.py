@@ -170,7 +170,7 @@ NAMES = """
     mag-quot mag_quot
     marks-more marks_more
     most-pixels most_pixels
-    mostPixels most_pixels
+    mostPixels most_batch_pixels
     mostRecords most_records
     mostRows most_rows
     mostServed most_served
@@ -374,7 +374,7 @@ NAMES = """
     wholeSubtract whole_subtract
     with-labels with_labels
     with-word with_word
-    withWord with_word
+    withWord with_uniform_word
     within-from within_from
     word-other word_other
     wordAt word_at

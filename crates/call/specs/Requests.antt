@@ -8,8 +8,8 @@ use Rattle.call.specs.declared.refusal.RunRefusal.TheVariants.{Count, PixelCount
 use Rattle.call.specs.Tallies.{most_served}
 
 -- a batch has at most so many pixels
-abbrev pub most_pixels : ℕ
-most_pixels = 64
+abbrev pub most_batch_pixels : ℕ
+most_batch_pixels = 64
 
 -- an in row's channel is not among those of the in frame, or an out row's not among those of the out frame
 abbrev pub row_lacks : ℕ → ℕ → Row → Bool
@@ -28,7 +28,7 @@ first_of (c ∷ cs) = cond c.0 (Some c.1) (first_of cs)
 -- the conditions in their order, for a call that has served so many pixels, a batch of count pixels from first on, and so many marks given
 abbrev pub conditions : List Row → Image → Image → ℕ → ℕ → ℕ → ℕ → List (Bool × RunRefusal)
 conditions rows inn out served first count given =
-    (count == 0 || nat_lt most_pixels count, Count)
+    (count == 0 || nat_lt most_batch_pixels count, Count)
     ∷ (not (inn.pixels == out.pixels), PixelCounts)
     ∷ (nat_lt inn.pixels (first + count), PastEnd)
     ∷ (lacks_channel inn.channels out.channels rows (length rows), Channel)

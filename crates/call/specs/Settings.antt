@@ -21,12 +21,12 @@ set_answer rows i w =
     (Err NoUniform)
 
 -- the settings with another word for the uniform in row i
-abbrev pub with_word : Settings → ℕ → ℕ → Settings
-with_word s i w = record { transform = s.transform; budget = s.budget; uniforms = slice_set s.uniforms i w }
+abbrev pub with_uniform_word : Settings → ℕ → ℕ → Settings
+with_uniform_word s i w = record { transform = s.transform; budget = s.budget; uniforms = slice_set s.uniforms i w }
 
 -- the settings after set: refused, they are as before
 abbrev pub after_set : Settings → ℕ → ℕ → Settings
-after_set s i w = cond (is_ok (set_answer s.transform.rows.now i w)) (with_word s i w) s
+after_set s i w = cond (is_ok (set_answer s.transform.rows.now i w)) (with_uniform_word s i w) s
 
 -- what decides a pixel besides its input words, with a number kind
 abbrev pub setting_with : Meaning → Settings → Setting

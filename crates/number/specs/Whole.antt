@@ -39,11 +39,11 @@ whole_multiply a b = word (wrap (signed a *ℤ signed b))
 abbrev pub whole_negate : ℕ → ℕ
 whole_negate a = word (wrap (neg_ℤ (signed a)))
 
--- the quotient, wrapped; `quot_z` drops the fraction toward zero
+-- the quotient, wrapped; `int_div` drops the fraction toward zero
 abbrev pub whole_divide : ℕ → ℕ → Result ℕ Stop
 whole_divide a b = unless_zero (signed b) (word (wrap (int_div (signed a) (signed b))))
 
--- what a division leaves; `rem_z` has the sign of the dividend
+-- what a division leaves; `int_rem` has the sign of the dividend
 abbrev pub whole_remainder : ℕ → ℕ → Result ℕ Stop
 whole_remainder a b = unless_zero (signed b) (word (int_rem (signed a) (signed b)))
 

@@ -28,7 +28,7 @@ pub trait NumberKind {
 
     ghost meaning: { Meaning };
 
-    /// `Self::NUMBER`. A clause of generic code cannot name the constant, so this method ties it to the meaning.
+    /// `Self::NUMBER`. Clauses speak of the meaning's `number`; this method ties the constant to it.
     fn kind_number() -> u8
         ensures { result ≡ meaning.number };
 

@@ -1,5 +1,5 @@
 -- The rules that a transform keeps, each a test.
-use Rattle.std.specs.Prelude.{◌≡◌, ℕ, zero, suc, Bool, true, false, cond, not, ◌&&◌, ◌||◌, leb, List, length, ◌==◌, nat_eq, nat_le, nat_lt}
+use Rattle.std.specs.Prelude.{◌≡◌, ℕ, zero, suc, Bool, true, false, cond, not, ◌&&◌, ◌||◌, List, length, ◌==◌, nat_eq, nat_le, nat_lt}
 use Rattle.transform.specs.Kinds.{suits}
 use Rattle.transform.specs.Parts.{flag, number, uniform, most_rows, most_records, most_words, channels, is_flag, is_number, is_in, is_out, is_uniform, row_at}
 use Rattle.transform.specs.Tests.{within, ◌implies◌}
@@ -23,7 +23,7 @@ channel_suits r = cond (is_in r || is_out r) (is_number r && nat_lt r.channel ch
 
 -- a flag starts as 0 or 1, and an in register has no start word
 abbrev pub word_suits : Row → Bool
-word_suits r = (is_flag r implies leb r.word 1) && (is_in r implies nat_eq r.word 0)
+word_suits r = (is_flag r implies nat_le r.word 1) && (is_in r implies nat_eq r.word 0)
 
 -- an out row with that channel
 abbrev pub out_on : Row → ℕ → Bool
