@@ -9,7 +9,7 @@ Reads crates/*/{src,specs,proofs}; writes what has an old name. Comments of .rt 
 import pathlib
 import re
 
-# An old name and its new one, a line each. Where two old names of one crate would have become one name, the definition has another word.
+# An old name and its new one, a line each. Where two old names would have become one name, the definition has another word.
 NAMES = """
     a-le a_le
     abs-fits abs_fits
