@@ -1,5 +1,5 @@
 -- The fixed kind: a word is a signed count of 65,536ths.
-use Rattle.std.specs.Prelude.{ℕ, Bool, cond, ◌&&◌, ℤ, pos, negsuc, ◌+ℤ◌, ◌-ℤ◌, ◌*ℤ◌, neg_ℤ, Ok, Err, Result, int_div, int_le, int_lt}
+use Rattle.std.specs.Prelude.{ℕ, Bool, if◌then◌else◌, ◌&&◌, ℤ, pos, negsuc, ◌+ℤ◌, ◌-ℤ◌, ◌*ℤ◌, neg_ℤ, Ok, Err, Result, int_div, int_le, int_lt}
 use Rattle.std.specs.Int.Signed.{shr_z}
 use Rattle.std.specs.Int.{saturate_to_bits}
 use Rattle.number.specs.declared.kind.Stop.{Stop}
@@ -41,7 +41,7 @@ fixed_equal a b = int_le (signed a) (signed b) && int_le (signed b) (signed a)
 
 -- 65,536 times the whole number, from -32,768 to 32,767; any other is out of range
 abbrev pub fixed_from_whole : ℤ → Result ℕ Stop
-fixed_from_whole z = cond (int_le (negsuc 32767) z && int_le z (pos 32767)) (Ok (word (z *ℤ pos 65536))) (Err OutOfRange)
+fixed_from_whole z = if int_le (negsuc 32767) z && int_le z (pos 32767) then Ok (word (z *ℤ pos 65536)) else Err OutOfRange
 
 -- the count by 65,536, rounded down
 abbrev pub fixed_to_whole : ℕ → Result ℤ Stop

@@ -1,5 +1,5 @@
 -- The float kind: a word is a binary32 of IEEE 754. Its operations round once, to the nearest value, a tie to the even one.
-use Rattle.std.specs.Prelude.{◌≡◌, ℕ, suc, ◌*◌, ◌/◌, ◌^◌, ◌<◌, Bool, true, false, cond, ◌&&◌, ℤ, pos, negsuc, neg_ℤ, Ok, Err, Result, int_le, nat_le, nat_lt, unsigned_abs, Float}
+use Rattle.std.specs.Prelude.{◌≡◌, ℕ, suc, ◌*◌, ◌/◌, ◌^◌, ◌<◌, Bool, true, false, if◌then◌else◌, ◌&&◌, ℤ, pos, negsuc, neg_ℤ, Ok, Err, Result, int_le, nat_le, nat_lt, unsigned_abs, Float}
 use Rattle.std.specs.Float.Ieee as Ieee
 use Rattle.std.specs.Float.{nan, inf, fin, binary32}
 use Rattle.std.specs.Float.Ieee.{up, down}
@@ -17,7 +17,7 @@ pattern x = Ieee.to_bits binary32 x
 
 -- every NaN as 7FC00000h, any other word as itself
 abbrev pub float_admit : ℕ → ℕ
-float_admit w = cond (Ieee.is_nan (value w)) 0x7fc00000 w
+float_admit w = if Ieee.is_nan (value w) then 0x7fc00000 else w
 
 -- the sum, rounded once
 abbrev pub float_add : ℕ → ℕ → Result ℕ Stop
@@ -41,7 +41,7 @@ float_negate a = Ok (pattern (Ieee.neg (value a)))
 
 -- a whole number from -2 ^ 24 to 2 ^ 24 is that float; any other is out of range
 abbrev pub float_from_whole : ℤ → Result ℕ Stop
-float_from_whole z = cond (int_le (negsuc 16777215) z && int_le z (pos 16777216)) (Ok (pattern (Ieee.of_int binary32 z))) (Err OutOfRange)
+float_from_whole z = if int_le (negsuc 16777215) z && int_le z (pos 16777216) then Ok (pattern (Ieee.of_int binary32 z)) else Err OutOfRange
 
 -- x is the number z itself, and not one that it was rounded to
 abbrev pub Exactly : Float → ℤ → Type 0
@@ -57,8 +57,8 @@ ExactOr (Err s) z = (s ≡ OutOfRange) × (2 ^ 24 < unsigned_abs z)
 
 -- the whole number n with the sign s, if it is one of 32 bits
 abbrev pub in_range : Bool → ℕ → Result ℤ Stop
-in_range true n = cond (nat_le n (2 ^ 31)) (Ok (neg_ℤ (pos n))) (Err OutOfRange)
-in_range false n = cond (nat_lt n (2 ^ 31)) (Ok (pos n)) (Err OutOfRange)
+in_range true n = if nat_le n (2 ^ 31) then Ok (neg_ℤ (pos n)) else Err OutOfRange
+in_range false n = if nat_lt n (2 ^ 31) then Ok (pos n) else Err OutOfRange
 
 -- the size without its fraction, with the sign; a NaN and an infinity are out of range
 abbrev pub whole_part : Float → Result ℤ Stop

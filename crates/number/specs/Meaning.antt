@@ -1,5 +1,5 @@
 -- What a number kind means: the answer of each operation, as a function of the words.
-use Rattle.std.specs.Prelude.{◌≡◌, ℕ, ◌^◌, ◌<◌, Bool, ℤ, Ok, Err, Result, FitsSigned}
+use Rattle.std.specs.Prelude.{◌≡◌, ℕ, ◌^◌, ◌<◌, Bool, ℤ, Ok, Err, Result, FitsSigned, List, codes}
 use Rattle.std.specs.Int.{w32}
 use Rattle.number.specs.declared.kind.Stop.{Stop}
 use Rattle.number.specs.declared.kind.Stop.TheVariants.{DivisionByZero, OutOfRange}
@@ -8,6 +8,11 @@ use Rattle.number.specs.declared.kind.Stop.TheVariants.{DivisionByZero, OutOfRan
 abbrev pub stop_number : Stop → ℕ
 stop_number DivisionByZero = 1
 stop_number OutOfRange = 2
+
+-- what a stop is called
+abbrev pub stop_text : Stop → List ℕ
+stop_text DivisionByZero = codes "divided by zero"
+stop_text OutOfRange = codes "out of range"
 
 -- the kind's number, the admitted form of a word, and what each operation yields: a word, a flag, a whole number or a stop
 pub record Meaning : Type 0 where

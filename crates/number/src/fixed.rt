@@ -1,10 +1,10 @@
 //! The fixed kind: a word is a signed count of 65,536ths.
-ghost use Rattle.std.specs.Prelude.{◌≡◌, pos, ◌*ℤ◌, ◌≢◌, int_div};
-ghost use Rattle.std.specs.Int.{saturate_to_bits};
-ghost use Rattle.number.specs.Fixed.{fixed};
+ghost use Rattle.std.specs.Prelude.{◌≡◌, ◌≢◌, ◌*ℤ◌, pos, refl, int_div};
+ghost use Rattle.number.specs.Fixed.{fixed, clipped};
 ghost use Rattle.std.proofs.Common.{rules};
 
 use crate::kind::{NumberKind, Stop};
+use crate::whole::divisor;
 
 /// How many counts make one.
 const ONE: i64 = 65536;
@@ -17,11 +17,12 @@ const MOST_WHOLE: i32 = 32767;
 /// The fixed kind, number 2.
 pub struct Fixed;
 
-// The signed number of 32 bits that is nearest to n.
-fn clip(n: i64) -> i32
-    ensures { result ≡ saturate_to_bits 31 n }
+// The word of the count that is nearest to n.
+fn clipped(n: i64) -> u32
+    ensures { result ≡ clipped n }
 {
-    n.clamp(-2147483648, 2147483647) as i32
+    let count = n.clamp(i64::from(i32::MIN), i64::from(i32::MAX)) as i32;
+    count.cast_unsigned()
 }
 
 // The product of two counts, 65,536 times too large.
@@ -29,13 +30,6 @@ fn product(a: i32, b: i32) -> i64
     ensures { result ≡ a *ℤ b }
 {
     i64::from(a) * i64::from(b)
-}
-
-// n by 65,536, the fraction dropped toward zero.
-fn scaled_down(n: i64) -> i64
-    ensures { result ≡ int_div n (pos 65536) }
-{
-    n / ONE
 }
 
 // The quotient of two counts, as a count; the fraction drops toward zero.
@@ -49,13 +43,13 @@ fn ratio(a: i32, b: i32) -> i64
 impl NumberKind for Fixed {
     const NUMBER: u8 = 2;
 
+    ghost NUMBER = { fixed.number };
+
     ghost meaning = { fixed };
 
-    ghost lawful = { Prim.search rules };
+    ghost numbered = { refl };
 
-    fn kind_number() -> u8 {
-        Self::NUMBER
-    }
+    ghost lawful = { Prim.search rules };
 
     fn admit(word: u32) -> u32 {
         word
@@ -72,15 +66,11 @@ impl NumberKind for Fixed {
     }
 
     fn multiply(a: u32, b: u32) -> Result<u32, Stop> {
-        let exact = product(a.cast_signed(), b.cast_signed());
-        Ok(clip(scaled_down(exact)).cast_unsigned())
+        Ok(clipped(product(a.cast_signed(), b.cast_signed()) / ONE))
     }
 
     fn divide(a: u32, b: u32) -> Result<u32, Stop> {
-        if b == 0 {
-            return Err(Stop::DivisionByZero);
-        }
-        Ok(clip(ratio(a.cast_signed(), b.cast_signed())).cast_unsigned())
+        Ok(clipped(ratio(a.cast_signed(), divisor(b)?)))
     }
 
     fn negate(a: u32) -> Result<u32, Stop> {
@@ -96,7 +86,7 @@ impl NumberKind for Fixed {
     }
 
     fn from_whole(n: i32) -> Result<u32, Stop> {
-        if n < LEAST_WHOLE || n > MOST_WHOLE {
+        if !(LEAST_WHOLE..=MOST_WHOLE).contains(&n) {
             return Err(Stop::OutOfRange);
         }
         Ok((n * 65536).cast_unsigned())

@@ -1,12 +1,15 @@
 //! What every number kind gives.
-ghost use Rattle.std.specs.Prelude.{◌≡◌};
-ghost use Rattle.number.specs.Meaning.{Meaning, Lawful, stop_number};
+ghost use Rattle.std.specs.Prelude.{◌≡◌, ℕ, Some};
+ghost use Rattle.number.specs.Meaning.{Meaning, Lawful, stop_number, stop_text};
+
+use std::error::Error;
+use std::fmt;
 
 /// Why an operation yields nothing.
 #[derive(Clone, Copy, PartialEq, Eq, Debug)]
 pub enum Stop {
-    DivisionByZero,
-    OutOfRange,
+    DivisionByZero = 1,
+    OutOfRange = 2,
 }
 
 impl Stop {
@@ -14,23 +17,31 @@ impl Stop {
     pub fn number(self) -> u8
         ensures { result ≡ stop_number self }
     {
-        match self {
-            Stop::DivisionByZero => 1,
-            Stop::OutOfRange => 2,
-        }
+        self as u8
     }
 }
+
+impl fmt::Display for Stop {
+    ghost output = { λ stop. Some (stop_text stop) };
+
+    fn fmt<W: fmt::Write>(&self, f: &mut fmt::Formatter<W>) -> fmt::Result {
+        f.write_str(match self {
+            Stop::DivisionByZero => "divided by zero",
+            Stop::OutOfRange => "out of range",
+        })
+    }
+}
+
+impl Error for Stop {}
 
 /// A reading of 32-bit words as numbers. `meaning` says what each operation answers, for any words.
 pub trait NumberKind {
     /// The kind's number: 1 for float, 2 for fixed.
     const NUMBER: u8;
 
-    ghost meaning: { Meaning };
+    ghost NUMBER: { ℕ };
 
-    /// `Self::NUMBER`. Clauses speak of the meaning's `number`; this method ties the constant to it.
-    fn kind_number() -> u8
-        ensures { result ≡ meaning.number };
+    ghost meaning: { Meaning };
 
     /// The admitted form of a word.
     fn admit(word: u32) -> u32
@@ -64,6 +75,9 @@ pub trait NumberKind {
     /// The whole number that a number becomes.
     fn to_whole(a: u32) -> Result<i32, Stop>
         ensures { result ≡ meaning.to_whole a };
+
+    // The constant is the number that clauses speak of.
+    ghost numbered: { NUMBER ≡ meaning.number };
 
     ghost lawful: { Lawful meaning };
 }

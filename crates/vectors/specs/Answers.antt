@@ -1,7 +1,7 @@
 -- What a case's operation answers, by its kind.
 use Rattle.std.specs.Prelude.{ℕ, ℤ, Some, None, Ok, Err, Option, Result}
 use Rattle.number.specs.declared.kind.Stop.{Stop}
-use Rattle.number.specs.Meaning.{Meaning, stop_number}
+use Rattle.number.specs.Meaning.{Meaning}
 use Rattle.number.specs.Whole.{signed, word, whole_add, whole_subtract, whole_multiply, whole_divide, whole_remainder, whole_negate, whole_less, whole_equal}
 use Rattle.vectors.specs.declared.answer.Answer.{Answer}
 use Rattle.vectors.specs.declared.answer.Answer.TheVariants as answer
@@ -11,12 +11,12 @@ use Rattle.vectors.specs.declared.answer.Operation.TheVariants.{Admit, Add, Subt
 -- a word or a stop
 abbrev pub of_word : Result ℕ Stop → Answer
 of_word (Ok w) = answer.Word w
-of_word (Err s) = answer.Stop (stop_number s)
+of_word (Err s) = answer.Stop s
 
 -- a whole number's word or a stop
 abbrev pub of_whole : Result ℤ Stop → Answer
 of_whole (Ok z) = answer.Word (word z)
-of_whole (Err s) = answer.Stop (stop_number s)
+of_whole (Err s) = answer.Stop s
 
 -- the operation on numbers of a kind; there is no remainder of numbers
 abbrev pub on_numbers : Meaning → Operation → ℕ → ℕ → Option Answer

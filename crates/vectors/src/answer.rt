@@ -1,10 +1,12 @@
 //! What an operation of a number kind, or of whole numbers, answers.
 ghost use Rattle.std.specs.Prelude.{◌≡◌};
-ghost use Rattle.vectors.specs.Answers.{of_word, of_whole, on_numbers, on_wholes};
+ghost use Rattle.vectors.specs.Answers.{of_word, on_numbers, on_wholes};
 
+use crate::error::CaseError;
 use number::kind::{NumberKind, Stop};
 use number::whole;
 use std::fmt;
+use std::str::FromStr;
 
 /// An operation that a case names.
 #[derive(Clone, Copy)]
@@ -27,7 +29,38 @@ pub enum Operation {
 pub enum Answer {
     Word(u32),
     Flag(bool),
-    Stop(u8),
+    Stop(Stop),
+}
+
+impl Operation {
+    /// Whether it has a second operand.
+    pub fn takes_two(self) -> bool {
+        !matches!(
+            self,
+            Operation::Admit | Operation::Negate | Operation::FromWhole | Operation::ToWhole
+        )
+    }
+}
+
+impl FromStr for Operation {
+    type Err = CaseError;
+
+    fn from_str(name: &str) -> Result<Operation, CaseError> {
+        match name {
+            "admit" => Ok(Operation::Admit),
+            "add" => Ok(Operation::Add),
+            "subtract" => Ok(Operation::Subtract),
+            "multiply" => Ok(Operation::Multiply),
+            "divide" => Ok(Operation::Divide),
+            "remainder" => Ok(Operation::Remainder),
+            "negate" => Ok(Operation::Negate),
+            "less" => Ok(Operation::Less),
+            "equal" => Ok(Operation::Equal),
+            "from-whole" => Ok(Operation::FromWhole),
+            "to-whole" => Ok(Operation::ToWhole),
+            _ => Err(CaseError::UnknownOperation),
+        }
+    }
 }
 
 impl fmt::Display for Answer {
@@ -35,26 +68,19 @@ impl fmt::Display for Answer {
         match *self {
             Answer::Word(word) => write!(f, "{word:08X}h"),
             Answer::Flag(flag) => f.write_str(if flag { "1" } else { "0" }),
-            Answer::Stop(number) => write!(f, "stop {number}"),
+            Answer::Stop(stop) => write!(f, "stop {}", stop.number()),
         }
     }
 }
 
-fn of_word(r: Result<u32, Stop>) -> Answer
-    ensures { result ≡ of_word r }
-{
-    match r {
-        Ok(word) => Answer::Word(word),
-        Err(stop) => Answer::Stop(stop.number()),
-    }
-}
+impl From<Result<u32, Stop>> for Answer {
+    ghost from_gives = { λ r answer. answer ≡ of_word r };
 
-fn of_whole(r: Result<i32, Stop>) -> Answer
-    ensures { result ≡ of_whole r }
-{
-    match r {
-        Ok(n) => Answer::Word(n.cast_unsigned()),
-        Err(stop) => Answer::Stop(stop.number()),
+    fn from(r: Result<u32, Stop>) -> Answer {
+        match r {
+            Ok(word) => Answer::Word(word),
+            Err(stop) => Answer::Stop(stop),
+        }
     }
 }
 
@@ -64,16 +90,16 @@ pub fn on_numbers<K: NumberKind>(operation: Operation, a: u32, b: u32) -> Option
 {
     let answer = match operation {
         Operation::Admit => Answer::Word(K::admit(a)),
-        Operation::Add => of_word(K::add(a, b)),
-        Operation::Subtract => of_word(K::subtract(a, b)),
-        Operation::Multiply => of_word(K::multiply(a, b)),
-        Operation::Divide => of_word(K::divide(a, b)),
+        Operation::Add => K::add(a, b).into(),
+        Operation::Subtract => K::subtract(a, b).into(),
+        Operation::Multiply => K::multiply(a, b).into(),
+        Operation::Divide => K::divide(a, b).into(),
         Operation::Remainder => return None,
-        Operation::Negate => of_word(K::negate(a)),
+        Operation::Negate => K::negate(a).into(),
         Operation::Less => Answer::Flag(K::less(a, b)),
         Operation::Equal => Answer::Flag(K::equal(a, b)),
-        Operation::FromWhole => of_word(K::from_whole(a.cast_signed())),
-        Operation::ToWhole => of_whole(K::to_whole(a)),
+        Operation::FromWhole => K::from_whole(a.cast_signed()).into(),
+        Operation::ToWhole => K::to_whole(a).map(|n| n.cast_unsigned()).into(),
     };
     Some(answer)
 }
@@ -86,8 +112,8 @@ pub fn on_wholes(operation: Operation, a: u32, b: u32) -> Option<Answer>
         Operation::Add => Answer::Word(whole::add(a, b)),
         Operation::Subtract => Answer::Word(whole::subtract(a, b)),
         Operation::Multiply => Answer::Word(whole::multiply(a, b)),
-        Operation::Divide => of_word(whole::divide(a, b)),
-        Operation::Remainder => of_word(whole::remainder(a, b)),
+        Operation::Divide => whole::divide(a, b).into(),
+        Operation::Remainder => whole::remainder(a, b).into(),
         Operation::Negate => Answer::Word(whole::negate(a)),
         Operation::Less => Answer::Flag(whole::less(a, b)),
         Operation::Equal => Answer::Flag(whole::equal(a, b)),

@@ -1,7 +1,10 @@
 //! A case, as one line has it: `KIND OPERATION A [B] EXPECTED`.
 use crate::answer::{Answer, Operation, on_numbers, on_wholes};
+use crate::error::CaseError;
 use number::fixed::Fixed;
 use number::float::Float;
+use number::kind::Stop;
+use std::str::FromStr;
 
 /// What the words of a case are.
 #[derive(Clone, Copy)]
@@ -32,98 +35,64 @@ impl Case {
     }
 }
 
-fn read_kind(text: &str) -> Result<Kind, &'static str> {
-    match text {
-        "float" => Ok(Kind::Float),
-        "fixed" => Ok(Kind::Fixed),
-        "whole" => Ok(Kind::Whole),
-        _ => Err("the kind should be float, fixed or whole"),
+impl FromStr for Kind {
+    type Err = CaseError;
+
+    fn from_str(name: &str) -> Result<Kind, CaseError> {
+        match name {
+            "float" => Ok(Kind::Float),
+            "fixed" => Ok(Kind::Fixed),
+            "whole" => Ok(Kind::Whole),
+            _ => Err(CaseError::UnknownKind),
+        }
     }
 }
 
-fn read_operation(text: &str) -> Result<Operation, &'static str> {
-    match text {
-        "admit" => Ok(Operation::Admit),
-        "add" => Ok(Operation::Add),
-        "subtract" => Ok(Operation::Subtract),
-        "multiply" => Ok(Operation::Multiply),
-        "divide" => Ok(Operation::Divide),
-        "remainder" => Ok(Operation::Remainder),
-        "negate" => Ok(Operation::Negate),
-        "less" => Ok(Operation::Less),
-        "equal" => Ok(Operation::Equal),
-        "from-whole" => Ok(Operation::FromWhole),
-        "to-whole" => Ok(Operation::ToWhole),
-        _ => Err("there is no such operation"),
+// The word that eight hexadecimal digits, in either case, and `h` name.
+fn read_word(text: &str) -> Result<u32, CaseError> {
+    let digits = text.strip_suffix('h').ok_or(CaseError::BadWord)?;
+    if digits.len() != 8 || !digits.bytes().all(|digit| digit.is_ascii_hexdigit()) {
+        return Err(CaseError::BadWord);
     }
-}
-
-fn takes_two(operation: Operation) -> bool {
-    match operation {
-        Operation::Admit | Operation::Negate | Operation::FromWhole | Operation::ToWhole => false,
-        _ => true,
-    }
-}
-
-fn read_digit(byte: u8) -> Option<u32> {
-    match byte {
-        b'0'..=b'9' => Some(u32::from(byte - b'0')),
-        b'A'..=b'F' => Some(u32::from(byte - b'A') + 10),
-        b'a'..=b'f' => Some(u32::from(byte - b'a') + 10),
-        _ => None,
-    }
-}
-
-fn read_word(text: &str) -> Result<u32, &'static str> {
-    let reason = "a word should be eight hexadecimal digits and h";
-    let bytes = text.as_bytes();
-    if bytes.len() != 9 || bytes[8] != b'h' {
-        return Err(reason);
-    }
-    let mut word: u32 = 0;
-    for i in 0..8 {
-        let Some(digit) = read_digit(bytes[i]) else {
-            return Err(reason);
-        };
-        word = word.wrapping_mul(16) | digit;
-    }
-    Ok(word)
+    u32::from_str_radix(digits, 16).map_err(|_| CaseError::BadWord)
 }
 
 // A flag, a stop's number or a word; `after` is what follows on the line.
-fn read_expected(text: &str, after: Option<&str>) -> Result<Answer, &'static str> {
+fn read_expected(text: &str, after: Option<&str>) -> Result<Answer, CaseError> {
     match (text, after) {
         ("0", None) => Ok(Answer::Flag(false)),
         ("1", None) => Ok(Answer::Flag(true)),
-        ("stop", Some("1")) => Ok(Answer::Stop(1)),
-        ("stop", Some("2")) => Ok(Answer::Stop(2)),
+        ("stop", Some("1")) => Ok(Answer::Stop(Stop::DivisionByZero)),
+        ("stop", Some("2")) => Ok(Answer::Stop(Stop::OutOfRange)),
         (_, None) => Ok(Answer::Word(read_word(text)?)),
-        _ => Err("the answer should be a word, 0, 1, stop 1 or stop 2"),
+        _ => Err(CaseError::BadAnswer),
     }
 }
 
-/// The case on a line, or why it is none.
-pub fn read_case(line: &str) -> Result<Case, &'static str> {
-    let short = "a case is KIND OPERATION A [B] EXPECTED";
-    let mut parts = line.split_whitespace();
-    let kind = read_kind(parts.next().ok_or(short)?)?;
-    let operation = read_operation(parts.next().ok_or(short)?)?;
-    let a = read_word(parts.next().ok_or(short)?)?;
-    let b = if takes_two(operation) {
-        read_word(parts.next().ok_or(short)?)?
-    } else {
-        0
-    };
-    let text = parts.next().ok_or(short)?;
-    let expected = read_expected(text, parts.next())?;
-    if parts.next().is_some() {
-        return Err("there is more on the line than a case");
+impl FromStr for Case {
+    type Err = CaseError;
+
+    fn from_str(line: &str) -> Result<Case, CaseError> {
+        let mut parts = line.split_whitespace();
+        let mut part = || parts.next().ok_or(CaseError::TooShort);
+        let kind = part()?.parse::<Kind>()?;
+        let operation = part()?.parse::<Operation>()?;
+        let a = read_word(part()?)?;
+        let b = if operation.takes_two() {
+            read_word(part()?)?
+        } else {
+            0
+        };
+        let expected = read_expected(part()?, parts.next())?;
+        if parts.next().is_some() {
+            return Err(CaseError::TooLong);
+        }
+        Ok(Case {
+            kind,
+            operation,
+            a,
+            b,
+            expected,
+        })
     }
-    Ok(Case {
-        kind,
-        operation,
-        a,
-        b,
-        expected,
-    })
 }

@@ -3,14 +3,16 @@
 
 mod answer;
 mod case;
+mod error;
 
 use answer::Answer;
-use case::read_case;
+use case::Case;
+use error::CaseError;
 use std::io;
 use std::io::{BufRead, BufReader};
 
 /// How many cases agreed, and how many did not.
-#[derive(Clone, Copy)]
+#[derive(Clone, Copy, Default)]
 struct Counts {
     agreed: u64,
     differed: u64,
@@ -18,44 +20,37 @@ struct Counts {
 
 impl Counts {
     fn note(&mut self, agreed: bool) {
-        if agreed {
-            self.agreed = self.agreed.saturating_add(1);
+        let count = if agreed {
+            &mut self.agreed
         } else {
-            self.differed = self.differed.saturating_add(1);
-        }
+            &mut self.differed
+        };
+        *count = count.saturating_add(1);
     }
+}
+
+// What the case on the line expects, and what the engine's arithmetic answers.
+fn answers(line: &str) -> Result<(Answer, Answer), CaseError> {
+    let case = line.parse::<Case>()?;
+    let answer = case.answer().ok_or(CaseError::NoSuchOperation)?;
+    Ok((case.expected, answer))
 }
 
 // Whether the case on the line agrees; says why where it does not.
 fn agrees(rt: &impl Print, number: u64, line: &str) -> io::Result<bool> {
-    let case = match read_case(line) {
-        Ok(case) => case,
-        Err(reason) => {
-            println!(rt; "line {number}: {reason}")?;
-            return Ok(false);
-        }
-    };
-    let Some(answer) = case.answer() else {
-        println!(rt; "line {number}: the kind does not have the operation")?;
-        return Ok(false);
-    };
-    if answer == case.expected {
-        return Ok(true);
+    match answers(line) {
+        Ok((expected, answer)) if answer == expected => return Ok(true),
+        Ok((_, answer)) => println!(rt; "line {number}: {line} but {answer} came")?,
+        Err(reason) => println!(rt; "line {number}: {reason}")?,
     }
-    println!(rt; "line {number}: {line} but {answer} came")?;
     Ok(false)
 }
 
 fn main(rt: HostRuntime) -> io::Result<()> {
-    let mut counts = Counts {
-        agreed: 0,
-        differed: 0,
-    };
-    let mut number: u64 = 0;
-    for line in BufReader::new(rt.alloc(), rt.stdin())?.lines(rt.alloc()) {
-        let line = line?;
-        number = number.saturating_add(1);
-        let agreed = agrees(&rt, number, line.as_str())?;
+    let mut counts = Counts::default();
+    let lines = BufReader::new(rt.alloc(), rt.stdin())?.lines(rt.alloc());
+    for (number, line) in (1u64..).zip(lines) {
+        let agreed = agrees(&rt, number, line?.as_str())?;
         counts.note(agreed);
     }
     let Counts { agreed, differed } = counts;
