@@ -1,5 +1,5 @@
+pub mod Sizes
 pub mod Images
-pub mod Planes
-pub mod Words
-pub mod Labels
+pub mod Places
+pub mod Relabels
 pub mod Samples

@@ -1,5 +1,5 @@
 -- What a frame means.
-use Rattle.std.specs.Prelude.{ℕ, Bool, cond, ◌&&◌, Some, None, Option, ◌==◌, nat_lt}
+use Rattle.std.specs.Prelude.{ℕ, Bool, if◌then◌else◌, ◌&&◌, Some, None, Option, ◌==◌, nat_lt}
 
 -- a pixel count, a channel count, and a word for each pixel and channel
 pub record Image : Type 0 where
@@ -13,26 +13,26 @@ inside m p c = nat_lt p m.pixels && nat_lt c m.channels
 
 -- the word at a pixel and a channel, none outside
 abbrev pub sample : Image → ℕ → ℕ → Option ℕ
-sample m p c = cond (inside m p c) (Some (m.word p c)) None
+sample m p c = if inside m p c then Some (m.word p c) else None
 
 -- the image with one sample changed
 abbrev pub with_word : Image → ℕ → ℕ → ℕ → Image
 with_word m p c w = record {
   pixels = m.pixels;
   channels = m.channels;
-  word = λ q d. cond (q == p && d == c) w (m.word q d);
+  word = λ q d. if q == p && d == c then w else m.word q d;
 }
 
 -- what a put makes of an image: a put outside changes nothing
 abbrev pub put_image : Image → ℕ → ℕ → ℕ → Image
-put_image m p c w = cond (inside m p c) (with_word m p c w) m
+put_image m p c w = if inside m p c then with_word m p c w else m
 
 -- the image of so many pixels and channels that has f's words inside, and 0 outside
 abbrev pub image_of : ℕ → ℕ → (ℕ → ℕ → ℕ) → Image
 image_of n k f = record {
   pixels = n;
   channels = k;
-  word = λ p c. cond (nat_lt p n && nat_lt c k) (f p c) 0;
+  word = λ p c. if nat_lt p n && nat_lt c k then f p c else 0;
 }
 
 -- a frame of no pixels and no channels

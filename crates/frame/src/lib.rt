@@ -3,10 +3,11 @@
 #![tactic(auto)]
 
 pub mod field;
-mod limits;
+mod labels;
 pub mod packed;
 pub mod pixel;
 pub mod planar;
 pub mod readable;
 pub mod relabelled;
+mod size;
 pub mod writable;

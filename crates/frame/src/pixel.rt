@@ -6,7 +6,7 @@ use crate::readable::Readable;
 use crate::writable::{Outside, Writable};
 
 /// A word for one channel of a pixel.
-#[derive(Clone, Copy)]
+#[derive(Clone, Copy, Debug, PartialEq, Eq)]
 pub struct Sample {
     pub channel: usize,
     pub word: u32,
@@ -21,12 +21,9 @@ fn is_inside<F: Readable>(frame: &F, pixel: usize, channel: usize) -> bool
 fn all_inside<F: Readable>(frame: &F, pixel: usize, samples: &[Sample]) -> bool
     ensures { result ≡ all_inside (F.Readable.image frame.now) pixel samples.now }
 {
-    for sample in samples {
-        if !is_inside(frame, pixel, sample.channel) {
-            return false;
-        }
-    }
-    true
+    samples
+        .iter()
+        .all(|sample| is_inside(frame, pixel, sample.channel))
 }
 
 fn put_samples<F: Writable>(frame: &mut F, pixel: usize, samples: &[Sample])

@@ -1,11 +1,23 @@
-ghost use Rattle.std.specs.Prelude.{◌≡◌, is_ok};
+ghost use Rattle.std.specs.Prelude.{◌≡◌, Some, codes, is_ok};
 ghost use Rattle.frame.specs.Image.{inside, put_image};
 
 use crate::readable::Readable;
+use std::error::Error;
+use std::fmt;
 
 /// There is no such pixel or channel.
-#[derive(Debug, Drop)]
+#[derive(Clone, Copy, Debug, PartialEq, Eq)]
 pub struct Outside;
+
+impl fmt::Display for Outside {
+    ghost output = { λ _. Some (codes "there is no such pixel or channel") };
+
+    fn fmt<W: fmt::Write>(&self, f: &mut fmt::Formatter<W>) -> fmt::Result {
+        f.write_str("there is no such pixel or channel")
+    }
+}
+
+impl Error for Outside {}
 
 /// A readable picture that also takes words.
 pub trait Writable: Readable {

@@ -12,77 +12,45 @@ use std::alloc::{AllocError, Global};
 /// The word that every sample holds at the start.
 const START: u32 = 7;
 
-fn read_pixel<F: Readable>(frame: &F, pixel: usize) -> u32 {
-    let mut sum = 0u32;
-    for channel in 0..frame.channels() {
-        if let Some(word) = frame.get(pixel, channel) {
-            sum = sum.wrapping_add(word);
+/// Calls `visit` on every pixel and channel, channel after channel or pixel after pixel.
+// A bool and not an enum: the C interface of the exports gives the order so.
+fn each_sample<F: FnMut(usize, usize)>(
+    pixels: usize,
+    channels: usize,
+    by_channel: bool,
+    mut visit: F,
+)
+    requires { F.IsAlwaysCallable visit }
+{
+    if by_channel {
+        for channel in 0..channels {
+            for pixel in 0..pixels {
+                visit(pixel, channel);
+            }
+        }
+    } else {
+        for pixel in 0..pixels {
+            for channel in 0..channels {
+                visit(pixel, channel);
+            }
         }
     }
-    sum
 }
 
-fn read_by_pixel<F: Readable>(frame: &F) -> u32 {
-    let mut sum = 0u32;
-    for pixel in 0..frame.pixels() {
-        sum = sum.wrapping_add(read_pixel(frame, pixel));
-    }
-    sum
-}
-
-fn read_channel<F: Readable>(frame: &F, channel: usize) -> u32 {
-    let mut sum = 0u32;
-    for pixel in 0..frame.pixels() {
-        if let Some(word) = frame.get(pixel, channel) {
-            sum = sum.wrapping_add(word);
-        }
-    }
-    sum
-}
-
-fn read_by_channel<F: Readable>(frame: &F) -> u32 {
-    let mut sum = 0u32;
-    for channel in 0..frame.channels() {
-        sum = sum.wrapping_add(read_channel(frame, channel));
-    }
-    sum
-}
-
+/// Reads every sample so many times, and adds the words up.
 fn read_rounds<F: Readable>(frame: &F, by_channel: bool, rounds: usize) -> u32 {
     let mut sum = 0u32;
     for _ in 0..rounds {
-        let one = if by_channel {
-            read_by_channel(frame)
-        } else {
-            read_by_pixel(frame)
-        };
-        sum = sum.wrapping_add(one);
+        each_sample(
+            frame.pixels(),
+            frame.channels(),
+            by_channel,
+            |pixel, channel| {
+                sum = sum.wrapping_add(frame.get(pixel, channel).unwrap_or(0));
+            },
+        );
     }
     sum
-}
-
-fn write_pixel<F: Writable>(frame: &mut F, pixel: usize, word: u32) {
-    for channel in 0..frame.channels() {
-        let _ = frame.put(pixel, channel, word);
-    }
-}
-
-fn write_by_pixel<F: Writable>(frame: &mut F, word: u32) {
-    for pixel in 0..frame.pixels() {
-        write_pixel(frame, pixel, word);
-    }
-}
-
-fn write_channel<F: Writable>(frame: &mut F, channel: usize, word: u32) {
-    for pixel in 0..frame.pixels() {
-        let _ = frame.put(pixel, channel, word);
-    }
-}
-
-fn write_by_channel<F: Writable>(frame: &mut F, word: u32) {
-    for channel in 0..frame.channels() {
-        write_channel(frame, channel, word);
-    }
 }
 
 /// Writes every sample so many times, another word each time, and reads them all at the end.
@@ -90,13 +58,16 @@ fn write_rounds<F: Writable>(frame: &mut F, by_channel: bool, rounds: usize) -> 
     let mut word = START;
     for _ in 0..rounds {
         word = word.wrapping_add(1);
-        if by_channel {
-            write_by_channel(frame, word);
-        } else {
-            write_by_pixel(frame, word);
-        }
+        each_sample(
+            frame.pixels(),
+            frame.channels(),
+            by_channel,
+            |pixel, channel| {
+                let _ = frame.put(pixel, channel, word);
+            },
+        );
     }
-    read_by_pixel(frame)
+    read_rounds(frame, false, 1)
 }
 
 fn planar(heap: Global, pixels: usize, channels: usize) -> Result<Planar, AllocError> {
@@ -106,10 +77,8 @@ fn planar(heap: Global, pixels: usize, channels: usize) -> Result<Planar, AllocE
 
 fn packed(heap: Global, pixels: usize, channels: usize) -> Result<Packed, AllocError> {
     let mut bytes = Vec::from_elem(heap, 0u8, pixels.saturating_mul(channels).saturating_mul(4))?;
-    for i in 0..bytes.len() {
-        if i % 4 == 3 {
-            bytes[i] = 7;
-        }
+    for sample in bytes.as_chunks_mut().0 {
+        *sample = START.to_be_bytes();
     }
     Ok(Packed::new(bytes, channels))
 }
@@ -125,11 +94,8 @@ fn relabelled(
     pixels: usize,
     channels: usize,
 ) -> Result<Relabelled<Planar>, AllocError> {
-    let mut labels = Vec::new(heap);
-    for channel in 0..channels {
-        labels.push(channels - 1 - channel)?;
-    }
-    Ok(Relabelled::new(planar(heap, pixels, channels)?, labels.as_slice()))
+    let labels: Vec<usize> = (0..channels).rev().collect(heap)?;
+    Ok(Relabelled::new(planar(heap, pixels, channels)?, &labels))
 }
 
 #[unsafe(no_mangle)]
@@ -140,10 +106,7 @@ pub extern "C" fn planar_gets(
     by_channel: bool,
     rounds: usize,
 ) -> u32 {
-    match planar(heap, pixels, channels) {
-        Ok(frame) => read_rounds(&frame, by_channel, rounds),
-        Err(_) => 0,
-    }
+    planar(heap, pixels, channels).map_or(0, |frame| read_rounds(&frame, by_channel, rounds))
 }
 
 #[unsafe(no_mangle)]
@@ -154,10 +117,10 @@ pub extern "C" fn planar_puts(
     by_channel: bool,
     rounds: usize,
 ) -> u32 {
-    match planar(heap, pixels, channels) {
-        Ok(mut frame) => write_rounds(&mut frame, by_channel, rounds),
-        Err(_) => 0,
-    }
+    planar(heap, pixels, channels).map_or(
+        0,
+        |mut frame| write_rounds(&mut frame, by_channel, rounds),
+    )
 }
 
 #[unsafe(no_mangle)]
@@ -168,10 +131,7 @@ pub extern "C" fn packed_gets(
     by_channel: bool,
     rounds: usize,
 ) -> u32 {
-    match packed(heap, pixels, channels) {
-        Ok(frame) => read_rounds(&frame, by_channel, rounds),
-        Err(_) => 0,
-    }
+    packed(heap, pixels, channels).map_or(0, |frame| read_rounds(&frame, by_channel, rounds))
 }
 
 #[unsafe(no_mangle)]
@@ -182,10 +142,10 @@ pub extern "C" fn packed_puts(
     by_channel: bool,
     rounds: usize,
 ) -> u32 {
-    match packed(heap, pixels, channels) {
-        Ok(mut frame) => write_rounds(&mut frame, by_channel, rounds),
-        Err(_) => 0,
-    }
+    packed(heap, pixels, channels).map_or(
+        0,
+        |mut frame| write_rounds(&mut frame, by_channel, rounds),
+    )
 }
 
 #[unsafe(no_mangle)]
@@ -196,10 +156,7 @@ pub extern "C" fn field_gets(
     by_channel: bool,
     rounds: usize,
 ) -> u32 {
-    match field(heap, pixels, channels) {
-        Ok(frame) => read_rounds(&frame, by_channel, rounds),
-        Err(_) => 0,
-    }
+    field(heap, pixels, channels).map_or(0, |frame| read_rounds(&frame, by_channel, rounds))
 }
 
 #[unsafe(no_mangle)]
@@ -210,10 +167,7 @@ pub extern "C" fn relabelled_gets(
     by_channel: bool,
     rounds: usize,
 ) -> u32 {
-    match relabelled(heap, pixels, channels) {
-        Ok(frame) => read_rounds(&frame, by_channel, rounds),
-        Err(_) => 0,
-    }
+    relabelled(heap, pixels, channels).map_or(0, |frame| read_rounds(&frame, by_channel, rounds))
 }
 
 #[unsafe(no_mangle)]
@@ -224,8 +178,8 @@ pub extern "C" fn relabelled_puts(
     by_channel: bool,
     rounds: usize,
 ) -> u32 {
-    match relabelled(heap, pixels, channels) {
-        Ok(mut frame) => write_rounds(&mut frame, by_channel, rounds),
-        Err(_) => 0,
-    }
+    relabelled(heap, pixels, channels).map_or(
+        0,
+        |mut frame| write_rounds(&mut frame, by_channel, rounds),
+    )
 }

@@ -1,12 +1,9 @@
+use Rattle.std.proofs.Common.{sym}
 use Rattle.frame.proofs.Samples.{all_written, none_written}
 use Rattle.frame.proofs.pixel.write_pixel.Goals as goal
 
-pub returns-then-not-all_inside : goal.returns-then-not-all_inside
-returns-then-not-all_inside g c =
-    let none = none_written c.args.samples.now (g.F.Readable.image c.args.frame.now) c.args.pixel c.if-not-all_inside.ensures in
-    record { answer = c.if-not-all_inside.ensures; after = none.0; written = none.1 }
+pub returns-then-not-all_inside-clause-written : goal.returns-then-not-all_inside-clause-written
+returns-then-not-all_inside-clause-written g c = none_written c.args.samples.now _ c.args.pixel (sym c.if-not-all_inside.ensures)
 
-pub returns : goal.returns
-returns g c =
-    let all = all_written c.args.samples.now (g.F.Readable.image c.args.frame.now) _ c.args.pixel c.if-not-all_inside.ensures c.put_samples.ensures in
-    record { answer = c.if-not-all_inside.ensures; after = all.0; written = all.1 }
+pub returns-clause-written : goal.returns-clause-written
+returns-clause-written g c = all_written c.args.samples.now _ _ c.args.pixel c.put_samples.ensures
