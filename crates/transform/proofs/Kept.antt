@@ -1,13 +1,12 @@
 -- What the check accepts keeps every rule, what keeps every rule is accepted, and a fault is the first breach.
-use Rattle.std.proofs.Common.{◌≡◌, ℕ, ◌≤◌, Bool, true, false, leb, List, length, is_some, is_ok as passes, Some, None, Ok, Err, Option, sym, refl, ap, ◌∙◌}
-use Rattle.std.proofs.lemmas.Bool.{false≢true, both_ways, and_parts, and_from, leb-true, le-leb}
+use Rattle.std.proofs.Common.{◌≡◌, ℕ, ◌≤◌, true, List, length, is_some, is_ok as passes, None, Ok, Err, Option, sym, ap, ◌∙◌, arith}
+use Rattle.std.proofs.lemmas.Bool.{true_from_ne_false, both_ways, leb-true, le-leb}
+use Rattle.std.proofs.lemmas.Bool.Decides.{nat_tests}
 use Rattle.transform.specs.Answers.{Answer}
 use Rattle.transform.specs.Breach.{Breaks, Judged}
 use Rattle.transform.specs.Check.{checked}
 use Rattle.transform.specs.Keeps.{Keeps}
-use Rattle.transform.specs.Kinds.{kind_of, fields_of}
-use Rattle.transform.specs.Parts.{most_rows, most_records, most_words, row_at, record_at}
-use Rattle.transform.specs.Rules.{row_count_suits, row_known, channel_suits, word_suits, record_count_suits, all_zero, leads_inside, record_fields_suit, record_types_suit, record_writes_suit, table_length_suits}
+use Rattle.transform.specs.Parts.{most_words}
 use Rattle.transform.specs.Tests.{within}
 use Rattle.transform.specs.declared.fault.Fault.{Fault}
 use Rattle.transform.specs.declared.fault.Fault.TheVariants.{Rows, Records, Table}
@@ -18,73 +17,65 @@ use Rattle.transform.specs.declared.parts.Record.{Record}
 use Rattle.transform.specs.declared.parts.Row.{Row}
 use Rattle.transform.proofs.First.{all_causes, checked_right}
 
--- a test that does not fail holds
-unbroken : (kept : Bool) → (kept ≡ false → ⊥) → kept ≡ true
-unbroken true h = refl
-unbroken false h = absurd (h refl)
-
 -- what is not none is some
 some : {A : Type 0} (o : Option A) → (o ≡ None → ⊥) → is_some o ≡ true
-some None h = absurd (h refl)
-some (Some x) h = refl
+some o h = grind arith
 
 -- what is some is not none
 not_none : {A : Type 0} (o : Option A) → is_some o ≡ true → o ≡ None → ⊥
-not_none o h e = false≢true (sym (ap is_some e) ∙ h)
+not_none o h e = cc
 
 -- the bounds that the test says
 pub inside : (low high n : ℕ) → within low high n ≡ true → (low ≤ n) × (n ≤ high)
-inside low high n h = let p = and_parts (leb low n) (leb n high) h in (leb-true low n p.0, leb-true n high p.1)
+inside low high n h = grind (arith, nat_tests)
 
 -- the test that the bounds pass
 within_from : (low high n : ℕ) → (low ≤ n) × (n ≤ high) → within low high n ≡ true
-within_from low high n h = and_from (leb low n) (leb n high) (le-leb low n h.0) (le-leb n high h.1)
+within_from low high n h = grind (arith, nat_tests)
 
 -- an answer without a fault accepts
 ok_unless : {F : Type 0} (x : Answer F) → ((f : F) → x ≡ Err f → ⊥) → passes x ≡ true
-ok_unless (Ok u) h = refl
-ok_unless (Err f) h = absurd (h f refl)
+ok_unless x h = grind arith
 
 -- the only answer that accepts
 pub is_ok : {F : Type 0} (x : Answer F) → passes x ≡ true → x ≡ Ok tt
-is_ok (Ok u) h = refl
-is_ok (Err f) h = absurd (false≢true h)
+is_ok x h = grind arith
 
 module _ (rows : List Row) (records : List Record) (table : List ℕ) where
   -- where no fault is there, every rule is kept
   keeps : ((g : Fault) → Breaks rows records table g → ⊥) → Keeps rows records table
   keeps none =
       record {
-        rows_counted = inside 1 most_rows (length rows) (unbroken (row_count_suits rows) (none (Rows RowFaults.Count)));
-        rows_known = λ i l. unbroken (row_known (row_at rows i)) (λ e. none (Rows (RowFaults.Unknown i)) (l, e));
-        channels_suit = λ i l. unbroken (channel_suits (row_at rows i)) (λ e. none (Rows (RowFaults.Channel i)) (l, e));
-        words_suit = λ i l. unbroken (word_suits (row_at rows i)) (λ e. none (Rows (RowFaults.Word i)) (l, e));
+        rows_counted = inside _ _ _ (true_from_ne_false _ (none (Rows RowFaults.Count)));
+        rows_known = λ i l. true_from_ne_false _ (λ e. none (Rows (RowFaults.Unknown i)) (l, e));
+        channels_suit = λ i l. true_from_ne_false _ (λ e. none (Rows (RowFaults.Channel i)) (l, e));
+        words_suit = λ i l. true_from_ne_false _ (λ e. none (Rows (RowFaults.Word i)) (l, e));
         outs_apart = λ i j l m s. none (Rows (RowFaults.RepeatedOut j)) (m, (i, (l, s)));
-        records_counted = inside 2 most_records (length records) (unbroken (record_count_suits records) (none (Records RecordFaults.Count)));
-        first_zero = unbroken (all_zero (record_at records 0)) (none (Records RecordFaults.FirstNotZero));
-        kinds_known = λ i o l. some (kind_of (record_at records i).kind) (λ e. none (Records (RecordFaults.Kind i)) (o, l, e));
-        targets_inside = λ i k o l e. unbroken (leads_inside (fields_of k) (length records) (record_at records i)) (λ h. none (Records (RecordFaults.Target i)) (k, (o, l, e, h)));
-        fields_suit = λ i k o l e. unbroken (record_fields_suit (fields_of k) (length rows) (record_at records i)) (λ h. none (Records (RecordFaults.Field i)) (k, (o, l, e, h)));
-        types_suit = λ i k o l e. unbroken (record_types_suit k rows (record_at records i)) (λ h. none (Records (RecordFaults.Types i)) (k, (o, l, e, h)));
-        writes_suit = λ i k o l e. unbroken (record_writes_suit (fields_of k) rows (record_at records i)) (λ h. none (Records (RecordFaults.ReadOnly i)) (k, (o, l, e, h)));
-        table_counted = leb-true (length table) most_words (unbroken (table_length_suits table) (none (Table TooLong)));
+        records_counted = inside _ _ _ (true_from_ne_false _ (none (Records RecordFaults.Count)));
+        first_zero = true_from_ne_false _ (none (Records RecordFaults.FirstNotZero));
+        kinds_known = λ i o l. some _ (λ e. none (Records (RecordFaults.Kind i)) (o, l, e));
+        targets_inside = λ i k o l e. true_from_ne_false _ (λ h. none (Records (RecordFaults.Target i)) (k, (o, l, e, h)));
+        fields_suit = λ i k o l e. true_from_ne_false _ (λ h. none (Records (RecordFaults.Field i)) (k, (o, l, e, h)));
+        types_suit = λ i k o l e. true_from_ne_false _ (λ h. none (Records (RecordFaults.Types i)) (k, (o, l, e, h)));
+        writes_suit = λ i k o l e. true_from_ne_false _ (λ h. none (Records (RecordFaults.ReadOnly i)) (k, (o, l, e, h)));
+        table_counted = leb-true (length table) most_words (true_from_ne_false _ (none (Table TooLong)));
       }
 
   -- where every rule is kept, no fault is there
   none_broken : Keeps rows records table → (g : Fault) → Breaks rows records table g → ⊥
-  none_broken k (Rows RowFaults.Count) b = both_ways (row_count_suits rows) b (within_from 1 most_rows (length rows) k.rows_counted)
-  none_broken k (Rows (RowFaults.Unknown i)) b = both_ways (row_known (row_at rows i)) b.1 (k.rows_known i b.0)
-  none_broken k (Rows (RowFaults.Channel i)) b = both_ways (channel_suits (row_at rows i)) b.1 (k.channels_suit i b.0)
-  none_broken k (Rows (RowFaults.Word i)) b = both_ways (word_suits (row_at rows i)) b.1 (k.words_suit i b.0)
+  none_broken k (Rows RowFaults.Count) b = both_ways _ b (within_from _ _ _ k.rows_counted)
+  none_broken k (Rows (RowFaults.Unknown i)) b = both_ways _ b.1 (k.rows_known i b.0)
+  none_broken k (Rows (RowFaults.Channel i)) b = both_ways _ b.1 (k.channels_suit i b.0)
+  none_broken k (Rows (RowFaults.Word i)) b = both_ways _ b.1 (k.words_suit i b.0)
   none_broken k (Rows (RowFaults.RepeatedOut i)) b = k.outs_apart b.1.0 i b.1.1.0 b.0 b.1.1.1
-  none_broken k (Records RecordFaults.Count) b = both_ways (record_count_suits records) b (within_from 2 most_records (length records) k.records_counted)
-  none_broken k (Records RecordFaults.FirstNotZero) b = both_ways (all_zero (record_at records 0)) b k.first_zero
-  none_broken k (Records (RecordFaults.Kind i)) b = not_none (kind_of (record_at records i).kind) (k.kinds_known i b.0 b.1) b.2
-  none_broken k (Records (RecordFaults.Target i)) b = both_ways (leads_inside (fields_of b.0) (length records) (record_at records i)) b.1.3 (k.targets_inside i b.0 b.1.0 b.1.1 b.1.2)
-  none_broken k (Records (RecordFaults.Field i)) b = both_ways (record_fields_suit (fields_of b.0) (length rows) (record_at records i)) b.1.3 (k.fields_suit i b.0 b.1.0 b.1.1 b.1.2)
-  none_broken k (Records (RecordFaults.Types i)) b = both_ways (record_types_suit b.0 rows (record_at records i)) b.1.3 (k.types_suit i b.0 b.1.0 b.1.1 b.1.2)
-  none_broken k (Records (RecordFaults.ReadOnly i)) b = both_ways (record_writes_suit (fields_of b.0) rows (record_at records i)) b.1.3 (k.writes_suit i b.0 b.1.0 b.1.1 b.1.2)
-  none_broken k (Table f) b = both_ways (table_length_suits table) b (le-leb (length table) most_words k.table_counted)
+  none_broken k (Records RecordFaults.Count) b = both_ways _ b (within_from _ _ _ k.records_counted)
+  none_broken k (Records RecordFaults.FirstNotZero) b = both_ways _ b k.first_zero
+  none_broken k (Records (RecordFaults.Kind i)) b = not_none _ (k.kinds_known i b.0 b.1) b.2
+  none_broken k (Records (RecordFaults.Target i)) b = both_ways _ b.1.3 (k.targets_inside i b.0 b.1.0 b.1.1 b.1.2)
+  none_broken k (Records (RecordFaults.Field i)) b = both_ways _ b.1.3 (k.fields_suit i b.0 b.1.0 b.1.1 b.1.2)
+  none_broken k (Records (RecordFaults.Types i)) b = both_ways _ b.1.3 (k.types_suit i b.0 b.1.0 b.1.1 b.1.2)
+  none_broken k (Records (RecordFaults.ReadOnly i)) b = both_ways _ b.1.3 (k.writes_suit i b.0 b.1.0 b.1.1 b.1.2)
+  none_broken k (Table f) b = both_ways _ b (le-leb (length table) most_words k.table_counted)
 
   -- what the check accepts keeps every rule
   pub kept : passes (checked rows records table) ≡ true → Keeps rows records table

@@ -1,6 +1,6 @@
 -- Answers that are right about a region of faults, and how they join.
 use Rattle.std.proofs.Common.{◌≡◌, ℕ, zero, suc, ◌<◌, ◌≤◌, Bool, true, false, ◌⊎◌, [], ◌∷◌, get_or, Ok, Err, sym, refl, ap, ◌∙◌, subst, inl, inr, ⊎_elim, arith}
-use Rattle.std.proofs.lemmas.Bool.{true≢false, cases_lt}
+use Rattle.std.proofs.lemmas.Bool.{true≢false}
 use Rattle.std.proofs.lemmas.Bool.Decides.{nat_tests}
 use Rattle.transform.specs.Answers.{Answer, demand, ◌and_then◌, throughout, raised}
 use Rattle.transform.specs.Breach.{stage, Precedes}
@@ -45,17 +45,16 @@ stage_rises k l h = grind (arith, nat_tests)
 
 -- a fault of a later stage does not come before
 later_stage : (f g : Fault) → stage (cause f) < stage (cause g) → Precedes g f → ⊥
-later_stage f g h p = ⊎_elim (λ l. omega arith) (λ q. omega (arith, q.0)) p
+later_stage f g h p = grind arith
 
 -- nor one of the same stage at a later place
 later_place : (f g : Fault) → stage (cause f) ≡ stage (cause g) → place f < place g → Precedes g f → ⊥
-later_place f g s h p = ⊎_elim (λ l. omega arith) (λ q. ⊎_elim (λ l. omega arith) (λ r. omega (arith, r.0)) q.1) p
+later_place f g s h p = grind arith
 
 -- nor one at the same place of no lower cause
 pub same_place : (f g : Fault) → cause f ≤ cause g → place f ≡ place g → Precedes g f → ⊥
 same_place f g h e p =
-    let s = stage_rises (cause f) (cause g) h in
-    ⊎_elim (λ l. omega arith) (λ q. ⊎_elim (λ l. omega arith) (λ r. omega (arith, r.1)) q.1) p
+    let s = stage_rises (cause f) (cause g) h in grind arith
 
 -- the faults with a cause from k to l
 abbrev pub Causes : ℕ → ℕ → Fault → Type 0
@@ -77,10 +76,10 @@ pub record Right (Broken : Fault → Type 0) {F : Type 0} (up : F → Fault) (Re
 module _ (Broken : Fault → Type 0) where
   -- an answer stays right as its fault becomes one of the whole check
   pub right_raised : {F : Type 0} (up : F → Fault) (A : Fault → Type 0) (x : Answer F) → Right Broken up A x → Right Broken (λ f. f) A (raised up x)
-  right_raised up A (Ok u) r = record { clear = λ e. r.clear refl; found = λ f e. absurd (let z : ◌≡◌ {A = ℕ} 0 1 = cc in omega arith) }
+  right_raised up A (Ok u) r = record { clear = λ e. r.clear refl; found = λ f e. absurd cc }
   right_raised up A (Err f) r =
       record {
-        clear = λ e. absurd (let z : ◌≡◌ {A = ℕ} 0 1 = cc in omega arith);
+        clear = λ e. absurd cc;
         found = λ g e. let q : up f ≡ g = cc in subst (λ g. A g × Broken g × ((h : Fault) → A h → Precedes h g → Broken h → ⊥)) q (r.found f refl);
       }
 
@@ -102,7 +101,7 @@ module _ (Broken : Fault → Type 0) where
         }
     right_then A B (Err h) y order r s =
         record {
-          clear = λ e. absurd (let z : ◌≡◌ {A = ℕ} 0 1 = cc in omega arith);
+          clear = λ e. absurd cc;
           found = λ f e. let q = r.found f e in (inl q.0, q.1, λ g c p broken. ⊎_elim (λ a. q.2 g a p broken) (λ b. order (up f) g q.0 b p) c);
         }
 
@@ -110,14 +109,14 @@ module _ (Broken : Fault → Type 0) where
     pub right_fault : (A : Fault → Type 0) (f : F) → A (up f) → Broken (up f) → ((g : Fault) → A g → Precedes g (up f) → ⊥) → Right Broken up A (Err f)
     right_fault A f a broken least =
         record {
-          clear = λ e. absurd (let z : ◌≡◌ {A = ℕ} 0 1 = cc in omega arith);
+          clear = λ e. absurd cc;
           found = λ h e. let q : f ≡ h = cc in subst (λ h. A (up h) × Broken (up h) × ((g : Fault) → A g → Precedes g (up h) → Broken g → ⊥)) q (a, broken, λ g b p _. least g b p);
         }
 
     -- a rule that is kept exactly where the one fault of the region is not there
     pub right_demand : (A : Fault → Type 0) (f : F) (kept : Bool) → A (up f) → ((g : Fault) → A g → g ≡ up f) → (Broken (up f) → kept ≡ false) → (kept ≡ false → Broken (up f)) → Right Broken up A (demand kept f)
     right_demand A f true a only fails breaks =
-        record { clear = λ e g b broken. true≢false (fails (subst Broken (only g b) broken)); found = λ h e. absurd (let z : ◌≡◌ {A = ℕ} 0 1 = cc in omega arith) }
+        record { clear = λ e g b broken. true≢false (fails (subst Broken (only g b) broken)); found = λ h e. absurd cc }
     right_demand A f false a only fails breaks =
         right_fault A f a (breaks refl) (λ g b p. same_place (up f) g (omega (arith, ap cause (only g b))) (sym (ap place (only g b))) p)
 
@@ -135,25 +134,25 @@ module _ (Broken : Fault → Type 0) where
         let k = cause (up f) in
         let i = place (up f) in
         right_wider (λ g. At k k i g ⊎ At (suc k) l i g) (At k l i) (demand kept f and_then y)
-        (λ g c _. ⊎_elim (λ m. inl (c.0, omega arith, c.2)) (λ m. inr (m, c.1, c.2)) (cases_lt (cause g) (suc k)))
-        (λ g c. ⊎_elim (λ a. (a.0, omega (arith, a.1), a.2)) (λ b. (omega (arith, b.0), b.1, b.2)) c)
+        (λ g c _. grind arith)
+        (λ g c. grind arith)
         (right_then (At k k i) (At (suc k) l i) (demand kept f) y (λ f g a b p. same_place f g (omega (arith, a.1, b.0)) (a.2 ∙ sym b.2) p) (last_demand f kept fails breaks) r)
 
     -- one stage after another
     pub stages_then : (k m l : ℕ) (x y : Answer F) → stage m < stage (suc m) → k ≤ m → m < l → Right Broken up (Causes k m) x → Right Broken up (Causes (suc m) l) y → Right Broken up (Causes k l) (x and_then y)
     stages_then k m l x y rises low high r s =
         right_wider (λ g. Causes k m g ⊎ Causes (suc m) l g) (Causes k l) (x and_then y)
-        (λ g c _. ⊎_elim (λ h. inl (c.0, omega arith)) (λ h. inr (h, c.1)) (cases_lt (cause g) (suc m)))
-        (λ g c. ⊎_elim (λ a. (a.0, omega (arith, a.1))) (λ b. (omega (arith, b.0), b.1)) c)
+        (λ g c _. grind arith)
+        (λ g c. grind arith)
         (right_then (Causes k m) (Causes (suc m) l) x y (λ f g a b p. later_stage f g (omega (arith, stage_rises (cause f) m a.1, stage_rises (suc m) (cause g) b.0)) p) r s)
 
     -- place after place, at one stage
     pub throughout_right : (k l : ℕ) (at : ℕ → Answer F) → stage k ≡ stage l → (n : ℕ) → ((i : ℕ) → i < n → Right Broken up (At k l i) (at i)) → Right Broken up (Below k l n) (throughout at n)
-    throughout_right k l at same zero r = record { clear = λ e g c broken. omega (arith, c.2); found = λ f e. absurd (let z : ◌≡◌ {A = ℕ} 0 1 = cc in omega arith) }
+    throughout_right k l at same zero r = record { clear = λ e g c broken. omega (arith, c.2); found = λ f e. absurd cc }
     throughout_right k l at same (suc n) r =
         right_wider (λ g. Below k l n g ⊎ At k l n g) (Below k l (suc n)) (throughout at n and_then at n)
-        (λ g c _. ⊎_elim (λ h. inl (c.0, c.1, h)) (λ h. inr (c.0, c.1, omega (arith, c.2))) (cases_lt (place g) n))
-        (λ g c. ⊎_elim (λ a. (a.0, a.1, omega (arith, a.2))) (λ b. (b.0, b.1, omega (arith, b.2))) c)
+        (λ g c _. grind arith)
+        (λ g c. grind arith)
         (right_then (Below k l n) (At k l n) (throughout at n) (at n)
         (λ f g a b p.
         later_place f g

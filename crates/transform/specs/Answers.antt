@@ -1,5 +1,5 @@
 -- Answers of a check: no fault, or the first one.
-use Rattle.std.specs.Prelude.{ℕ, zero, suc, Bool, cond, Ok, Err, Result}
+use Rattle.std.specs.Prelude.{ℕ, zero, suc, Bool, if◌then◌else◌, Ok, Err, Result}
 
 -- no fault, or one
 abbrev pub Answer : Type 0 → Type 0
@@ -7,7 +7,7 @@ Answer F = Result (Unit {0}) F
 
 -- the fault, unless the rule is kept
 abbrev pub demand : {F : Type 0} → Bool → F → Answer F
-demand kept f = cond kept (Ok tt) (Err f)
+demand kept f = if kept then Ok tt else Err f
 
 infixr 20 ◌and_then◌
 -- the first fault of two answers

@@ -1,11 +1,11 @@
 -- The first breach: which rule a fault says is broken, and which fault comes before which.
-use Rattle.std.specs.Prelude.{◌≡◌, ℕ, ◌<◌, Bool, false, cond, ◌⊎◌, List, length, Some, None, Ok, Err, nat_le}
+use Rattle.std.specs.Prelude.{◌≡◌, ℕ, ◌<◌, Bool, false, if◌then◌else◌, ◌⊎◌, List, length, Some, None, Ok, Err, nat_le}
 use Rattle.transform.specs.Answers.{Answer}
 use Rattle.transform.specs.Faults.{cause, place}
 use Rattle.transform.specs.Keeps.{Keeps}
-use Rattle.transform.specs.Kinds.{kind_of, fields_of}
+use Rattle.transform.specs.Kinds.{kind_of}
 use Rattle.transform.specs.Parts.{row_at, record_at}
-use Rattle.transform.specs.Rules.{row_count_suits, row_known, channel_suits, word_suits, SameOut, record_count_suits, all_zero, leads_inside, record_fields_suit, record_types_suit, record_writes_suit, table_length_suits}
+use Rattle.transform.specs.Rules.{row_count_suits, row_known, channel_suits, word_suits, SameOut, record_count_suits, all_zero, targets_rule, fields_rule, types_rule, writes_rule, table_length_suits}
 use Rattle.transform.specs.declared.fault.Fault.{Fault}
 use Rattle.transform.specs.declared.fault.Fault.TheVariants.{Rows, Records, Table}
 use Rattle.transform.specs.declared.fault.RecordFault.{RecordFault}
@@ -33,10 +33,10 @@ abbrev pub RecordBreaks : List Row → List Record → RecordFault → Type 0
 RecordBreaks rows records RecordFaults.Count = record_count_suits records ≡ false
 RecordBreaks rows records RecordFaults.FirstNotZero = all_zero (record_at records 0) ≡ false
 RecordBreaks rows records (RecordFaults.Kind i) = (0 < i) × (i < length records) × (kind_of (record_at records i).kind ≡ None)
-RecordBreaks rows records (RecordFaults.Target i) = StepBreaks records i (λ kind c. leads_inside (fields_of kind) (length records) c)
-RecordBreaks rows records (RecordFaults.Field i) = StepBreaks records i (λ kind c. record_fields_suit (fields_of kind) (length rows) c)
-RecordBreaks rows records (RecordFaults.Types i) = StepBreaks records i (λ kind c. record_types_suit kind rows c)
-RecordBreaks rows records (RecordFaults.ReadOnly i) = StepBreaks records i (λ kind c. record_writes_suit (fields_of kind) rows c)
+RecordBreaks rows records (RecordFaults.Target i) = StepBreaks records i (targets_rule (length records))
+RecordBreaks rows records (RecordFaults.Field i) = StepBreaks records i (fields_rule (length rows))
+RecordBreaks rows records (RecordFaults.Types i) = StepBreaks records i (types_rule rows)
+RecordBreaks rows records (RecordFaults.ReadOnly i) = StepBreaks records i (writes_rule rows)
 
 -- the transform breaks the rule that the fault names, at the fault's place
 abbrev pub Breaks : List Row → List Record → List ℕ → Fault → Type 0
@@ -46,7 +46,7 @@ Breaks rows records table (Table f) = table_length_suits table ≡ false
 
 -- when a cause is looked for: 1 with the number of rows, 2 row by row, 3 with the number of records, 4 record by record, 5 with the table
 abbrev pub stage : ℕ → ℕ
-stage k = cond (nat_le k 1) 1 (cond (nat_le k 5) 2 (cond (nat_le k 6) 3 (cond (nat_le k 12) 4 5)))
+stage k = if nat_le k 1 then 1 else if nat_le k 5 then 2 else if nat_le k 6 then 3 else if nat_le k 12 then 4 else 5
 
 -- at an earlier stage; or at one stage, at an earlier place; or at one place, of a lower cause
 abbrev pub Precedes : Fault → Fault → Type 0

@@ -1,9 +1,9 @@
 -- The answer of the check: the rules in their order, and the first that is broken.
-use Rattle.std.specs.Prelude.{ℕ, zero, suc, List, length, Some, None, Err, Option}
+use Rattle.std.specs.Prelude.{ℕ, zero, suc, List, length, take, Some, None, Err, Option}
 use Rattle.transform.specs.Answers.{Answer, demand, ◌and_then◌, throughout, raised}
-use Rattle.transform.specs.Kinds.{kind_of, fields_of}
+use Rattle.transform.specs.Kinds.{kind_of}
 use Rattle.transform.specs.Parts.{row_at, record_at}
-use Rattle.transform.specs.Rules.{row_count_suits, row_known, channel_suits, word_suits, out_alone, record_count_suits, all_zero, leads_inside, record_fields_suit, record_types_suit, record_writes_suit, table_length_suits}
+use Rattle.transform.specs.Rules.{row_count_suits, row_known, channel_suits, word_suits, out_alone, record_count_suits, all_zero, targets_rule, fields_rule, types_rule, writes_rule, table_length_suits}
 use Rattle.transform.specs.declared.fault.Fault.{Fault}
 use Rattle.transform.specs.declared.fault.Fault.TheVariants.{Rows, Records, Table}
 use Rattle.transform.specs.declared.fault.RecordFault.{RecordFault}
@@ -16,13 +16,17 @@ use Rattle.transform.specs.declared.kind.RecordKind.{RecordKind}
 use Rattle.transform.specs.declared.parts.Record.{Record}
 use Rattle.transform.specs.declared.parts.Row.{Row}
 
+-- the rules of the row r at i, after the earlier ones
+abbrev pub row_rules : List Row → Row → ℕ → Answer RowFault
+row_rules earlier r i =
+    demand (row_known r) (RowFaults.Unknown i) and_then
+    demand (channel_suits r) (RowFaults.Channel i) and_then
+    demand (word_suits r) (RowFaults.Word i) and_then
+    demand (out_alone earlier r) (RowFaults.RepeatedOut i)
+
 -- the rules of the row at i
 abbrev pub row_answer : List Row → ℕ → Answer RowFault
-row_answer rows i =
-    demand (row_known (row_at rows i)) (RowFaults.Unknown i) and_then
-    demand (channel_suits (row_at rows i)) (RowFaults.Channel i) and_then
-    demand (word_suits (row_at rows i)) (RowFaults.Word i) and_then
-    demand (out_alone rows i) (RowFaults.RepeatedOut i)
+row_answer rows i = row_rules (take i rows) (row_at rows i) i
 
 -- the number of rows, then row after row
 abbrev pub rows_answer : List Row → Answer RowFault
@@ -32,15 +36,19 @@ rows_answer rows = demand (row_count_suits rows) RowFaults.Count and_then throug
 abbrev pub step_answer : Option RecordKind → List Row → ℕ → Record → ℕ → Answer RecordFault
 step_answer None rows n c i = Err (RecordFaults.Kind i)
 step_answer (Some kind) rows n c i =
-    demand (leads_inside (fields_of kind) n c) (RecordFaults.Target i) and_then
-    demand (record_fields_suit (fields_of kind) (length rows) c) (RecordFaults.Field i) and_then
-    demand (record_types_suit kind rows c) (RecordFaults.Types i) and_then
-    demand (record_writes_suit (fields_of kind) rows c) (RecordFaults.ReadOnly i)
+    demand (targets_rule n kind c) (RecordFaults.Target i) and_then
+    demand (fields_rule (length rows) kind c) (RecordFaults.Field i) and_then
+    demand (types_rule rows kind c) (RecordFaults.Types i) and_then
+    demand (writes_rule rows kind c) (RecordFaults.ReadOnly i)
 
--- the rules of the record at i; record 0 is no step
+-- the rules of the record c at place i, among n records; record 0 is no step
+abbrev pub record_rules : List Row → ℕ → Record → ℕ → Answer RecordFault
+record_rules rows n c zero = demand (all_zero c) RecordFaults.FirstNotZero
+record_rules rows n c (suc i) = step_answer (kind_of c.kind) rows n c (suc i)
+
+-- the rules of the record at i
 abbrev pub record_answer : List Row → List Record → ℕ → Answer RecordFault
-record_answer rows records zero = demand (all_zero (record_at records 0)) RecordFaults.FirstNotZero
-record_answer rows records (suc i) = step_answer (kind_of (record_at records (suc i)).kind) rows (length records) (record_at records (suc i)) (suc i)
+record_answer rows records i = record_rules rows (length records) (record_at records i) i
 
 -- the number of records, then record after record
 abbrev pub records_answer : List Row → List Record → Answer RecordFault

@@ -1,11 +1,13 @@
 -- The fifteen kinds of step.
-use Rattle.std.specs.Prelude.{ℕ, Bool, ◌&&◌, ◌||◌, List, [], ◌∷◌, Some, None, Option, ◌==◌, nat_eq, nat_le, slice_index_or}
+use Rattle.std.specs.Prelude.{ℕ, Bool, ◌&&◌, ◌||◌, List, [], ◌∷◌, Some, None, Option, Result, ◌==◌, nat_eq, nat_le, slice_index_or}
+use Rattle.std.specs.Option.{ok_or}
 use Rattle.transform.specs.Parts.{flag, whole, number}
 use Rattle.transform.specs.Tests.{◌implies◌}
 use Rattle.transform.specs.declared.kind.Fields.{Fields}
 use Rattle.transform.specs.declared.kind.Fields.TheVariants.{Word, One, Two, Fork}
 use Rattle.transform.specs.declared.kind.RecordKind.{RecordKind}
 use Rattle.transform.specs.declared.kind.RecordKind.TheVariants.{Literal, Copy, Add, Subtract, Multiply, Divide, Remainder, Negate, Less, Equal, Not, ToNumber, ToWhole, LookUp, Branch}
+use Rattle.transform.specs.declared.kind.UnknownKind.{UnknownKind}
 
 -- the kinds by their numbers, from 0
 abbrev pub kinds : List (Option RecordKind)
@@ -16,6 +18,10 @@ kinds =
 -- the kind with the number, if there is one
 abbrev pub kind_of : ℕ → Option RecordKind
 kind_of n = slice_index_or kinds n None
+
+-- the kind with the number, or the error that the number names none
+abbrev pub kind_named : ℕ → Result RecordKind UnknownKind
+kind_named n = ok_or (kind_of n) (record { 0 = n })
 
 -- which fields the kind uses, besides next: to and word; to and a; to, a and b; or a, and b for the place of a record
 abbrev pub fields_of : RecordKind → Fields

@@ -1,6 +1,7 @@
 pub mod Parts
 pub mod Kinds
 pub mod Faults
+pub mod Messages
 pub mod Tests
 pub mod Answers
 pub mod Rules

@@ -1,5 +1,5 @@
 -- The parts of a transform and the numbers that they are written in.
-use Rattle.std.specs.Prelude.{ℕ, Bool, cond, List, length, Some, None, Option, ◌==◌, nat_lt, slice_index, slice_index_or}
+use Rattle.std.specs.Prelude.{ℕ, ◌≤◌, Bool, List, Option, ◌==◌, slice_get, slice_index_or}
 use Rattle.transform.specs.declared.parts.Row.{Row}
 use Rattle.transform.specs.declared.parts.Record.{Record}
 
@@ -39,6 +39,14 @@ most_rows = 64
 abbrev pub most_records : ℕ
 most_records = 512
 
+-- there may be so many rows
+abbrev pub IsRowCount : ℕ → Type 0
+IsRowCount n = (1 ≤ n) × (n ≤ most_rows)
+
+-- there may be so many records
+abbrev pub IsRecordCount : ℕ → Type 0
+IsRecordCount n = (2 ≤ n) × (n ≤ most_records)
+
 -- at most so many words in the table
 abbrev pub most_words : ℕ
 most_words = 4096
@@ -50,6 +58,10 @@ channels = 8
 -- the register holds a flag
 abbrev pub is_flag : Row → Bool
 is_flag r = r.holds == flag
+
+-- the register holds a whole number
+abbrev pub is_whole : Row → Bool
+is_whole r = r.holds == whole
 
 -- the register holds a number
 abbrev pub is_number : Row → Bool
@@ -85,4 +97,4 @@ record_at records i = slice_index_or records i no_record
 
 -- the table's word with the index i, if there is one
 abbrev pub word_at : List ℕ → ℕ → Option ℕ
-word_at table i = cond (nat_lt i (length table)) (Some (slice_index table i)) None
+word_at table i = slice_get table i

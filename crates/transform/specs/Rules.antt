@@ -1,6 +1,7 @@
 -- The rules that a transform keeps, each a test.
-use Rattle.std.specs.Prelude.{◌≡◌, ℕ, zero, suc, Bool, true, false, cond, not, ◌&&◌, ◌||◌, List, length, ◌==◌, nat_eq, nat_le, nat_lt}
-use Rattle.transform.specs.Kinds.{suits}
+use Rattle.std.specs.Prelude.{◌≡◌, ℕ, Bool, true, if◌then◌else◌, not, ◌&&◌, ◌||◌, List, length, ◌==◌, nat_eq, nat_le, nat_lt}
+use Rattle.std.specs.List.{list_any}
+use Rattle.transform.specs.Kinds.{fields_of, suits}
 use Rattle.transform.specs.Parts.{flag, number, uniform, most_rows, most_records, most_words, channels, is_flag, is_number, is_in, is_out, is_uniform, row_at}
 use Rattle.transform.specs.Tests.{within, ◌implies◌}
 use Rattle.transform.specs.declared.kind.Fields.{Fields}
@@ -19,7 +20,7 @@ row_known r = within flag number r.holds && nat_le r.role uniform
 
 -- a register of a channel holds a number and names a channel that there is; any other names channel 0
 abbrev pub channel_suits : Row → Bool
-channel_suits r = cond (is_in r || is_out r) (is_number r && nat_lt r.channel channels) (r.channel == 0)
+channel_suits r = if is_in r || is_out r then is_number r && nat_lt r.channel channels else r.channel == 0
 
 -- a flag starts as 0 or 1, and an in register has no start word
 abbrev pub word_suits : Row → Bool
@@ -29,14 +30,9 @@ word_suits r = (is_flag r implies nat_le r.word 1) && (is_in r implies nat_eq r.
 abbrev pub out_on : Row → ℕ → Bool
 out_on r channel = is_out r && r.channel == channel
 
--- one of the first n rows is an out row with that channel
-abbrev pub out_before : List Row → ℕ → ℕ → Bool
-out_before rows channel zero = false
-out_before rows channel (suc n) = out_before rows channel n || out_on (row_at rows n) channel
-
 -- an out row's channel is no earlier out row's
-abbrev pub out_alone : List Row → ℕ → Bool
-out_alone rows i = is_out (row_at rows i) implies not (out_before rows (row_at rows i).channel i)
+abbrev pub out_alone : List Row → Row → Bool
+out_alone earlier r = is_out r implies not (list_any (λ e. out_on e r.channel) earlier)
 
 -- out rows i and j have one channel
 pub record SameOut (rows : List Row) (i j : ℕ) : Type 0 where
@@ -66,10 +62,6 @@ record_fields_suit One n c = nat_lt c.to n && nat_lt c.a n && c.b == 0 && c.word
 record_fields_suit Two n c = nat_lt c.to n && nat_lt c.a n && nat_lt c.b n && c.word == 0
 record_fields_suit Fork n c = c.to == 0 && nat_lt c.a n && c.word == 0
 
--- the registers hold what the kind takes and gives
-abbrev pub record_types_suit : RecordKind → List Row → Record → Bool
-record_types_suit kind rows c = suits kind (row_at rows c.to).holds (row_at rows c.a).holds (row_at rows c.b).holds c.word
-
 -- the register is neither an in register nor a uniform
 abbrev pub writable : Row → Bool
 writable r = not (is_in r || is_uniform r)
@@ -80,6 +72,22 @@ record_writes_suit Word rows c = writable (row_at rows c.to)
 record_writes_suit One rows c = writable (row_at rows c.to)
 record_writes_suit Two rows c = writable (row_at rows c.to)
 record_writes_suit Fork rows c = true
+
+-- what follows a step of the kind is one of n records
+abbrev pub targets_rule : ℕ → RecordKind → Record → Bool
+targets_rule n kind c = leads_inside (fields_of kind) n c
+
+-- a step of the kind uses registers among n, and its other fields are 0
+abbrev pub fields_rule : ℕ → RecordKind → Record → Bool
+fields_rule n kind c = record_fields_suit (fields_of kind) n c
+
+-- the registers of a step of the kind hold what it takes and gives
+abbrev pub types_rule : List Row → RecordKind → Record → Bool
+types_rule rows kind c = suits kind (row_at rows c.to).holds (row_at rows c.a).holds (row_at rows c.b).holds c.word
+
+-- a step of the kind writes only what may be written
+abbrev pub writes_rule : List Row → RecordKind → Record → Bool
+writes_rule rows kind c = record_writes_suit (fields_of kind) rows c
 
 -- the table is not too long
 abbrev pub table_length_suits : List ℕ → Bool

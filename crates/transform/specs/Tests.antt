@@ -1,5 +1,5 @@
 -- Two tests that the rules are written with.
-use Rattle.std.specs.Prelude.{ℕ, Bool, true, cond, ◌&&◌, nat_le}
+use Rattle.std.specs.Prelude.{ℕ, Bool, true, if◌then◌else◌, ◌&&◌, nat_le}
 
 -- n is from low to high
 abbrev pub within : ℕ → ℕ → ℕ → Bool
@@ -8,4 +8,4 @@ within low high n = nat_le low n && nat_le n high
 infixr 10 ◌implies◌
 -- where the first test holds, the second does
 abbrev pub ◌implies◌ : Bool → Bool → Bool
-◌implies◌ if then = cond if then true
+a implies b = if a then b else true

@@ -1,7 +1,7 @@
 //! The accepted transform.
 ghost use Rattle.std.specs.Prelude.{◌≡◌, ◌≤◌, true, length, is_ok};
 ghost use Rattle.transform.specs.Check.{checked};
-ghost use Rattle.transform.specs.Parts.{most_rows, most_records, most_words};
+ghost use Rattle.transform.specs.Parts.{most_words, IsRowCount, IsRecordCount};
 
 use crate::parts::{Record, Row};
 
@@ -11,10 +11,26 @@ pub struct Accepted<'a> {
     rows: &'a [Row],
     records: &'a [Record],
     table: &'a [u32],
-    ghost few_rows: { (1 ≤ length rows.now) × (length rows.now ≤ most_rows) },
-    ghost few_records: { (2 ≤ length records.now) × (length records.now ≤ most_records) },
+    ghost few_rows: { IsRowCount (length rows.now) },
+    ghost few_records: { IsRecordCount (length records.now) },
     ghost few_words: { length table.now ≤ most_words },
     ghost accepted: { is_ok (checked rows.now records.now table.now) ≡ true },
+}
+
+impl<'a> Accepted<'a> {
+    /// The rows, in their order.
+    pub fn rows(&self) -> &'a [Row]
+        ensures { result.now ≡ self.now.rows.now }
+    {
+        self.rows
+    }
+
+    /// The records, record 0 among them.
+    pub fn records(&self) -> &'a [Record]
+        ensures { result.now ≡ self.now.records.now }
+    {
+        self.records
+    }
 }
 
 pub mod built_in;

@@ -1,10 +1,13 @@
 //! What the check finds wrong with a transform, and the numbers by which it is told.
-ghost use Rattle.std.specs.Prelude.{◌≡◌};
+ghost use Rattle.std.specs.Prelude.{◌≡◌, Some};
 ghost use Rattle.transform.specs.Faults.{layer, cause, place, row_cause, row_place, record_cause, record_place};
+ghost use Rattle.transform.specs.Messages.{row_text, record_text, table_text, fault_text};
 ghost use Rattle.transform.specs.declared.fault.Fault.TheVariants.{Rows, Records, Table};
 
+use std::{error, fmt};
+
 /// What is wrong with the rows; the number is the row's.
-#[derive(Clone, Copy, PartialEq, Eq)]
+#[derive(Clone, Copy, Debug, PartialEq, Eq)]
 pub enum RowFault {
     Count,
     Unknown(usize),
@@ -14,7 +17,7 @@ pub enum RowFault {
 }
 
 /// What is wrong with the records; the number is the record's.
-#[derive(Clone, Copy, PartialEq, Eq)]
+#[derive(Clone, Copy, Debug, PartialEq, Eq)]
 pub enum RecordFault {
     Count,
     FirstNotZero,
@@ -26,19 +29,20 @@ pub enum RecordFault {
 }
 
 /// What is wrong with the table.
-#[derive(Clone, Copy, PartialEq, Eq)]
+#[derive(Clone, Copy, Debug, PartialEq, Eq)]
 pub enum TableFault {
     TooLong,
 }
 
 /// What is wrong with a transform.
-#[derive(Clone, Copy, PartialEq, Eq)]
+#[derive(Clone, Copy, Debug, PartialEq, Eq)]
 pub enum Fault {
     Rows(RowFault),
     Records(RecordFault),
     Table(TableFault),
 }
 
+// Written by hand, as the clauses of the check name the fault that each `?` makes.
 impl From<RowFault> for Fault {
     ghost from_gives = { λ f g. g ≡ Rows f };
 
@@ -63,6 +67,7 @@ impl From<TableFault> for Fault {
     }
 }
 
+// Matches and no casts: a variant that carries a place has no number of its own. Place 0 stands for none, as a fault is reported by three numbers.
 impl RowFault {
     pub(crate) fn cause(self) -> u8
         ensures { result ≡ row_cause self }
@@ -152,3 +157,73 @@ impl Fault {
         }
     }
 }
+
+impl fmt::Display for RowFault {
+    ghost output = { λ f. Some (row_text f) };
+
+    fn fmt<W: fmt::Write>(&self, f: &mut fmt::Formatter<W>) -> fmt::Result {
+        f.write_str(match self {
+            RowFault::Count => "broken rule: there are 1 to 64 rows",
+            RowFault::Unknown(_) => "broken rule: the type is 1, 2 or 3, and the role 0, 1, 2 or 3",
+            RowFault::Channel(_) =>
+                "broken rule: a row of role 1 or 2 has a channel from 0 to 7 and type 3; any other row has channel 0",
+            RowFault::Word(_) =>
+                "broken rule: the word of a flag is 0 or 1, and the word of a row of role 1 is 0",
+            RowFault::RepeatedOut(_) =>
+                "broken rule: the channel of an out row is not that of an earlier out row",
+        })
+    }
+}
+
+impl fmt::Display for RecordFault {
+    ghost output = { λ f. Some (record_text f) };
+
+    fn fmt<W: fmt::Write>(&self, f: &mut fmt::Formatter<W>) -> fmt::Result {
+        f.write_str(match self {
+            RecordFault::Count => "broken rule: there are 2 to 512 records",
+            RecordFault::FirstNotZero => "broken rule: every field of record 0 is 0",
+            RecordFault::Kind(_) => "broken rule: the kind is one of 1 to 15",
+            RecordFault::Target(_) => "broken rule: next names a record, and so does b of a branch",
+            RecordFault::Field(_) =>
+                "broken rule: every register that is used exists, and every field that is not used is 0",
+            RecordFault::Types(_) =>
+                "broken rule: the types suit the kind, and a literal for a flag is 0 or 1",
+            RecordFault::ReadOnly(_) =>
+                "broken rule: where the kind uses to, that register has neither role 1 nor role 3",
+        })
+    }
+}
+
+impl fmt::Display for TableFault {
+    ghost output = { λ f. Some (table_text f) };
+
+    fn fmt<W: fmt::Write>(&self, f: &mut fmt::Formatter<W>) -> fmt::Result {
+        f.write_str(match self {
+            TableFault::TooLong => "broken rule: there are at most 4,096 table words",
+        })
+    }
+}
+
+impl fmt::Display for Fault {
+    ghost output = { λ f. Some (fault_text f) };
+
+    fn fmt<W: fmt::Write>(&self, f: &mut fmt::Formatter<W>) -> fmt::Result {
+        let layer = self.layer();
+        let cause = self.cause();
+        let place = self.place();
+        write!(f, "layer {layer}, cause {cause}, place {place}, ")?;
+        match self {
+            Fault::Rows(rows) => write!(f, "{rows}"),
+            Fault::Records(records) => write!(f, "{records}"),
+            Fault::Table(table) => write!(f, "{table}"),
+        }
+    }
+}
+
+impl error::Error for RowFault {}
+
+impl error::Error for RecordFault {}
+
+impl error::Error for TableFault {}
+
+impl error::Error for Fault {}

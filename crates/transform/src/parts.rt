@@ -1,6 +1,9 @@
 //! The parts of a transform, as they are given, and the numbers that they are written in.
 ghost use Rattle.std.specs.Prelude.{◌≡◌};
-ghost use Rattle.transform.specs.Parts.{row_at, record_at, is_flag, is_number, is_in, is_out, is_uniform};
+ghost use Rattle.transform.specs.Kinds.{counts};
+ghost use Rattle.transform.specs.Parts.{row_at, is_flag, is_whole, is_number, is_in, is_out, is_uniform};
+
+// Numbers and no enums: a row that is handed in may hold any number, and each test of one stays a single comparison.
 
 /// A register that holds a flag, 0 or 1.
 pub const FLAG: u16 = 1;
@@ -28,8 +31,9 @@ pub const MOST_WORDS: usize = 4096;
 pub const CHANNELS: u16 = 8;
 
 /// One register: what it holds, what it is for, the channel of an in or out register, and its start word.
-#[derive(Clone, Copy, PartialEq, Eq)]
+#[derive(Clone, Copy, Default, PartialEq, Eq)]
 pub struct Row {
+    // Any numbers, as they are handed in: the check answers cause 2 for a type or a role that there is not.
     pub holds: u16,
     pub role: u16,
     pub channel: u16,
@@ -37,8 +41,9 @@ pub struct Row {
 }
 
 /// One step: its kind, the registers that it names, its word, and the place of the record that follows.
-#[derive(Clone, Copy, PartialEq, Eq)]
+#[derive(Clone, Copy, Default, PartialEq, Eq)]
 pub struct Record {
+    // Any number, as it is handed in: the check answers cause 8 for a kind that there is not.
     pub kind: u16,
     pub to: u16,
     pub a: u16,
@@ -55,11 +60,24 @@ impl Row {
         self.holds == FLAG
     }
 
+    pub(crate) fn is_whole(self) -> bool
+        ensures { result ≡ is_whole self }
+    {
+        self.holds == WHOLE
+    }
+
     /// Whether the register holds a number.
     pub fn is_number(self) -> bool
         ensures { result ≡ is_number self }
     {
         self.holds == NUMBER
+    }
+
+    // Whether the register holds a whole number or a number.
+    pub(crate) fn is_count(self) -> bool
+        ensures { result ≡ counts self.holds }
+    {
+        self.is_whole() || self.is_number()
     }
 
     /// Whether the register starts with an input word.
@@ -88,34 +106,5 @@ impl Row {
 pub(crate) fn row_at(rows: &[Row], i: u16) -> Row
     ensures { result ≡ row_at rows.now i }
 {
-    let i = i as usize;
-    if i < rows.len() {
-        rows[i]
-    } else {
-        Row {
-            holds: 0,
-            role: 0,
-            channel: 0,
-            word: 0,
-        }
-    }
-}
-
-// The record, or one of zeros where there is none.
-pub(crate) fn record_at(records: &[Record], place: u16) -> Record
-    ensures { result ≡ record_at records.now place }
-{
-    let i = place as usize;
-    if i < records.len() {
-        records[i]
-    } else {
-        Record {
-            kind: 0,
-            to: 0,
-            a: 0,
-            b: 0,
-            word: 0,
-            next: 0,
-        }
-    }
+    rows.get(usize::from(i)).copied().unwrap_or_default()
 }

@@ -1,150 +1,149 @@
 //! The rules of the records.
-ghost use Rattle.std.specs.Prelude.{◌≡◌, ◌<◌, length, Some};
-ghost use Rattle.transform.specs.Check.{step_answer, record_answer, records_answer};
-ghost use Rattle.transform.specs.Kinds.{counts, suits};
-ghost use Rattle.transform.specs.Rules.{record_count_suits, all_zero, leads_inside, record_fields_suit, record_types_suit, writable, record_writes_suit};
+ghost use Rattle.std.specs.Prelude.{◌≡◌, length, Some};
+ghost use Rattle.transform.specs.Check.{step_answer, record_rules, records_answer};
+ghost use Rattle.transform.specs.Kinds.{suits};
+ghost use Rattle.transform.specs.Rules.{record_count_suits, leads_inside, record_fields_suit, types_rule, writable, record_writes_suit};
 
 use crate::fault::RecordFault;
 use crate::kind::{Fields, RecordKind};
-use crate::parts::{FLAG, MOST_RECORDS, NUMBER, Record, Row, WHOLE, row_at};
+use crate::parts::{MOST_RECORDS, Record, Row, row_at};
 
-fn are_counted(records: &[Record]) -> bool
-    ensures { result ≡ record_count_suits records.now }
-{
-    2 <= records.len() && records.len() <= MOST_RECORDS
-}
-
-fn is_zero(c: Record) -> bool
-    ensures { result ≡ all_zero c }
-{
-    c.kind == 0 && c.to == 0 && c.a == 0 && c.b == 0 && c.word == 0 && c.next == 0
-}
-
-fn leads_inside(fields: Fields, n: usize, c: Record) -> bool
-    ensures { result ≡ leads_inside fields n c }
-{
-    match fields {
-        Fields::Word | Fields::One | Fields::Two => (c.next as usize) < n,
-        Fields::Fork => (c.next as usize) < n && (c.b as usize) < n,
+impl Row {
+    fn is_writable(self) -> bool
+        ensures { result ≡ writable self }
+    {
+        !self.is_in() && !self.is_uniform()
     }
 }
 
-fn fields_suit(fields: Fields, n: usize, c: Record) -> bool
-    ensures { result ≡ record_fields_suit fields n c }
-{
-    let to = c.to as usize;
-    let a = c.a as usize;
-    let b = c.b as usize;
-    match fields {
-        Fields::Word => to < n && a == 0 && b == 0,
-        Fields::One => to < n && a < n && b == 0 && c.word == 0,
-        Fields::Two => to < n && a < n && b < n && c.word == 0,
-        Fields::Fork => to == 0 && a < n && c.word == 0,
+impl RecordKind {
+    // Whether registers that hold what these rows say suit the kind, and so does the word.
+    fn suits(self, to: Row, a: Row, b: Row, word: u32) -> bool
+        ensures { result ≡ suits self to.holds a.holds b.holds word }
+    {
+        match self {
+            RecordKind::Literal => !to.is_flag() || word <= 1,
+            RecordKind::Copy => a.holds == to.holds,
+            RecordKind::Add | RecordKind::Subtract | RecordKind::Multiply | RecordKind::Divide =>
+                to.is_count() && a.holds == to.holds && b.holds == to.holds,
+            RecordKind::Remainder => to.is_whole() && a.is_whole() && b.is_whole(),
+            RecordKind::Negate => to.is_count() && a.holds == to.holds,
+            RecordKind::Less | RecordKind::Equal => to.is_flag()
+                && a.is_count()
+                && b.holds == a.holds,
+            RecordKind::Not => to.is_flag() && a.is_flag(),
+            RecordKind::ToNumber | RecordKind::LookUp => to.is_number() && a.is_whole(),
+            RecordKind::ToWhole => to.is_whole() && a.is_number(),
+            RecordKind::Branch => a.is_flag(),
+        }
     }
 }
 
-fn is_count(holds: u16) -> bool
-    ensures { result ≡ counts holds }
-{
-    holds == WHOLE || holds == NUMBER
+// A record that is judged, at its place among so many records, over the rows.
+#[derive(Clone, Copy)]
+struct Candidate<'a> {
+    rows: &'a [Row],
+    records: usize,
+    judged: Record,
+    place: usize,
 }
 
-fn suits(kind: RecordKind, to: u16, a: u16, b: u16, word: u32) -> bool
-    ensures { result ≡ suits kind to a b word }
-{
-    match kind {
-        RecordKind::Literal => to != FLAG || word <= 1,
-        RecordKind::Copy => to == a,
-        RecordKind::Add | RecordKind::Subtract | RecordKind::Multiply | RecordKind::Divide =>
-            is_count(to) && a == to && b == to,
-        RecordKind::Remainder => to == WHOLE && a == WHOLE && b == WHOLE,
-        RecordKind::Negate => is_count(to) && a == to,
-        RecordKind::Less | RecordKind::Equal => to == FLAG && is_count(a) && b == a,
-        RecordKind::Not => to == FLAG && a == FLAG,
-        RecordKind::ToNumber | RecordKind::LookUp => to == NUMBER && a == WHOLE,
-        RecordKind::ToWhole => to == WHOLE && a == NUMBER,
-        RecordKind::Branch => a == FLAG,
+impl Candidate<'_> {
+    fn leads_inside(&self, fields: Fields) -> bool
+        ensures { result ≡ leads_inside fields self.now.records self.now.judged }
+    {
+        let leads = |place: u16| usize::from(place) < self.records;
+        match fields {
+            Fields::Word | Fields::One | Fields::Two => leads(self.judged.next),
+            Fields::Fork => leads(self.judged.next) && leads(self.judged.b),
+        }
     }
-}
 
-fn types_suit(kind: RecordKind, rows: &[Row], c: Record) -> bool
-    ensures { result ≡ record_types_suit kind rows.now c }
-{
-    suits(
-        kind,
-        row_at(rows, c.to).holds,
-        row_at(rows, c.a).holds,
-        row_at(rows, c.b).holds,
-        c.word,
-    )
-}
+    fn fields_suit(&self, fields: Fields) -> bool
+        ensures { result ≡ record_fields_suit fields (length self.now.rows.now) self.now.judged }
+    {
+        let c = self.judged;
+        let is_row = |register: u16| usize::from(register) < self.rows.len();
+        match fields {
+            Fields::Word => is_row(c.to) && c.a == 0 && c.b == 0,
+            Fields::One => is_row(c.to) && is_row(c.a) && c.b == 0 && c.word == 0,
+            Fields::Two => is_row(c.to) && is_row(c.a) && is_row(c.b) && c.word == 0,
+            Fields::Fork => c.to == 0 && is_row(c.a) && c.word == 0,
+        }
+    }
 
-fn is_writable(row: Row) -> bool
-    ensures { result ≡ writable row }
-{
-    !row.is_in() && !row.is_uniform()
-}
+    fn types_suit(&self, kind: RecordKind) -> bool
+        ensures { result ≡ types_rule self.now.rows.now kind self.now.judged }
+    {
+        let c = self.judged;
+        kind.suits(
+            row_at(self.rows, c.to),
+            row_at(self.rows, c.a),
+            row_at(self.rows, c.b),
+            c.word,
+        )
+    }
 
-fn writes_suit(fields: Fields, rows: &[Row], c: Record) -> bool
-    ensures { result ≡ record_writes_suit fields rows.now c }
-{
-    match fields {
-        Fields::Word | Fields::One | Fields::Two => is_writable(row_at(rows, c.to)),
-        Fields::Fork => true,
+    fn writes_suit(&self, fields: Fields) -> bool
+        ensures { result ≡ record_writes_suit fields self.now.rows.now self.now.judged }
+    {
+        let to = row_at(self.rows, self.judged.to);
+        match fields {
+            Fields::Word | Fields::One | Fields::Two => to.is_writable(),
+            Fields::Fork => true,
+        }
     }
-}
 
-fn check_step(
-    kind: RecordKind,
-    rows: &[Row],
-    n: usize,
-    c: Record,
-    i: usize,
-) -> Result<(), RecordFault>
-    ensures { result ≡ step_answer (Some kind) rows.now n c i }
-{
-    let fields = kind.fields();
-    if !leads_inside(fields, n, c) {
-        return Err(RecordFault::Target(i));
+    fn check_step(&self, kind: RecordKind) -> Result<(), RecordFault>
+        ensures { result ≡ step_answer (Some kind) self.now.rows.now self.now.records self.now.judged self.now.place }
+    {
+        let fields = kind.fields();
+        if !self.leads_inside(fields) {
+            return Err(RecordFault::Target(self.place));
+        }
+        if !self.fields_suit(fields) {
+            return Err(RecordFault::Field(self.place));
+        }
+        if !self.types_suit(kind) {
+            return Err(RecordFault::Types(self.place));
+        }
+        if !self.writes_suit(fields) {
+            return Err(RecordFault::ReadOnly(self.place));
+        }
+        Ok(())
     }
-    if !fields_suit(fields, rows.len(), c) {
-        return Err(RecordFault::Field(i));
-    }
-    if !types_suit(kind, rows, c) {
-        return Err(RecordFault::Types(i));
-    }
-    if !writes_suit(fields, rows, c) {
-        return Err(RecordFault::ReadOnly(i));
-    }
-    Ok(())
-}
 
-fn check_record(rows: &[Row], records: &[Record], i: usize) -> Result<(), RecordFault>
-    requires { i < length records.now }
-    ensures { result ≡ record_answer rows.now records.now i }
-{
-    let c = records[i];
-    if i == 0 {
-        return if is_zero(c) {
-            Ok(())
-        } else {
-            Err(RecordFault::FirstNotZero)
-        };
-    }
-    match RecordKind::of(c.kind) {
-        Some(kind) => check_step(kind, rows, records.len(), c, i),
-        None => Err(RecordFault::Kind(i)),
+    fn check(&self) -> Result<(), RecordFault>
+        ensures { result ≡ record_rules self.now.rows.now self.now.records self.now.judged self.now.place }
+    {
+        let place = self.place;
+        if place == 0 {
+            return if self.judged == Record::default() {
+                Ok(())
+            } else {
+                Err(RecordFault::FirstNotZero)
+            };
+        }
+        let kind = RecordKind::try_from(self.judged.kind).map_err(|_| RecordFault::Kind(place))?;
+        self.check_step(kind)
     }
 }
 
+#[tactic(auto, using(crate::proofs::Throughout::throughout_more))]
 pub(crate) fn check_records(rows: &[Row], records: &[Record]) -> Result<(), RecordFault>
     ensures { result ≡ records_answer rows.now records.now }
 {
-    if !are_counted(records) {
+    if !(2..=MOST_RECORDS).contains(&records.len()) {
         return Err(RecordFault::Count);
     }
-    for i in 0..records.len() {
-        check_record(rows, records, i)?;
+    for (place, record) in records.iter().enumerate() {
+        let candidate = Candidate {
+            rows,
+            records: records.len(),
+            judged: *record,
+            place,
+        };
+        candidate.check()?;
     }
     Ok(())
 }

@@ -1,6 +1,6 @@
 //! A record as a step.
 ghost use Rattle.std.specs.Prelude.{◌≡◌};
-ghost use Rattle.transform.specs.Steps.{second_of, other_of, step_of};
+ghost use Rattle.transform.specs.Steps.{step_of};
 
 use crate::kind::{Fields, RecordKind};
 use crate::parts::{Record, Row, row_at};
@@ -26,37 +26,25 @@ pub struct Step {
     pub a_number: bool,
 }
 
-fn second_of(fields: Fields, c: Record) -> u16
-    ensures { result ≡ second_of fields c }
-{
-    match fields {
-        Fields::Word | Fields::One | Fields::Two => c.b,
-        Fields::Fork => 0,
-    }
-}
-
-fn other_of(fields: Fields, c: Record) -> u16
-    ensures { result ≡ other_of fields c }
-{
-    match fields {
-        Fields::Word | Fields::One | Fields::Two => 0,
-        Fields::Fork => c.b,
-    }
-}
-
-pub(crate) fn step_of(rows: &[Row], kind: RecordKind, c: Record) -> Step
-    ensures { result ≡ step_of rows.now kind c }
-{
-    let fields = kind.fields();
-    Step {
-        kind,
-        to: c.to,
-        a: c.a,
-        b: second_of(fields, c),
-        word: c.word,
-        next: c.next,
-        other: other_of(fields, c),
-        to_number: row_at(rows, c.to).is_number(),
-        a_number: row_at(rows, c.a).is_number(),
+impl Record {
+    // The record as a step of its kind.
+    pub(crate) fn step(self, kind: RecordKind, rows: &[Row]) -> Step
+        ensures { result ≡ step_of rows.now kind self }
+    {
+        let (b, other) = match kind.fields() {
+            Fields::Word | Fields::One | Fields::Two => (self.b, 0),
+            Fields::Fork => (0, self.b),
+        };
+        Step {
+            kind,
+            to: self.to,
+            a: self.a,
+            b,
+            word: self.word,
+            next: self.next,
+            other,
+            to_number: row_at(rows, self.to).is_number(),
+            a_number: row_at(rows, self.a).is_number(),
+        }
     }
 }

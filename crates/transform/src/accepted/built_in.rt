@@ -5,6 +5,7 @@ ghost use Rattle.transform.specs.Fork.{fork_rows, fork_records};
 use crate::accepted::Accepted;
 use crate::parts::{FLAG, IN, NUMBER, OUT, Record, Row, WORK};
 
+// Each field is written out, as the value of a constant may hold no call and so no default.
 const ROWS: [Row; 4] = [
     Row {
         holds: NUMBER,

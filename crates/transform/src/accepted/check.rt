@@ -14,9 +14,7 @@ use crate::table::check_table;
 
 // The answer of the check, whatever is held.
 fn judge(rows: &[Row], records: &[Record], table: &[u32]) -> Result<(), Fault>
-    ensures answer { result ≡ checked rows.now records.now table.now }
-    ensures judges { Judged rows.now records.now table.now result }
-    ensures exactly { Keeps rows.now records.now table.now → is_ok result ≡ true }
+    ensures { result ≡ checked rows.now records.now table.now }
 {
     check_rows(rows)?;
     check_records(rows, records)?;
@@ -25,6 +23,7 @@ fn judge(rows: &[Row], records: &[Record], table: &[u32]) -> Result<(), Fault>
 }
 
 /// Holds the transform from now on if it keeps every rule; else answers the first breach, and what is held stays.
+#[tactic(auto, using(crate::proofs::Kept::judged, crate::proofs::Kept::accepts, crate::proofs::Kept::kept))]
 pub fn check<'a>(
     held: &mut Accepted<'a>,
     rows: &'a [Row],

@@ -1,19 +1,20 @@
 //! Reads of an accepted transform: each takes any number.
 ghost use Rattle.std.specs.Prelude.{◌≡◌, ◌<◌, ◌≤◌, true, length, is_some, IfSome};
-ghost use Rattle.transform.specs.Parts.{most_rows, most_records, most_words, row_at, record_at, word_at};
-ghost use Rattle.transform.specs.Steps.{Sound, step_at};
+ghost use Rattle.transform.specs.Parts.{most_words, IsRowCount, IsRecordCount, row_at, record_at, word_at};
+ghost use Rattle.transform.specs.Held.{SoundIn};
+ghost use Rattle.transform.specs.Steps.{step_at};
 
 use crate::accepted::Accepted;
 use crate::kind::RecordKind;
 use crate::parts;
 use crate::parts::{Record, Row};
-use crate::step::{Step, step_of};
+use crate::step::Step;
 
 impl Accepted<'_> {
     /// How many registers there are.
     pub fn row_count(&self) -> usize
         ensures count { result ≡ length self.now.rows.now }
-        ensures few { (1 ≤ result) × (result ≤ most_rows) }
+        ensures few { IsRowCount result }
     {
         self.rows.len()
     }
@@ -21,7 +22,7 @@ impl Accepted<'_> {
     /// How many records there are, record 0 among them.
     pub fn record_count(&self) -> usize
         ensures count { result ≡ length self.now.records.now }
-        ensures few { (2 ≤ result) × (result ≤ most_records) }
+        ensures few { IsRecordCount result }
     {
         self.records.len()
     }
@@ -46,34 +47,30 @@ impl Accepted<'_> {
     pub fn record_at(&self, place: u16) -> Record
         ensures { result ≡ record_at self.now.records.now place }
     {
-        parts::record_at(self.records, place)
+        self.records
+            .get(usize::from(place))
+            .copied()
+            .unwrap_or_default()
     }
 
     /// The step at the place: none at place 0, nor where there is no record.
     pub fn step_at(&self, place: u16) -> Option<Step>
         ensures step { result ≡ step_at self.now.rows.now self.now.records.now place }
         ensures found { 0 < place → place < length self.now.records.now → is_some result ≡ true }
-        ensures sound { IfSome result (Sound (length self.now.rows.now) (length self.now.records.now)) }
+        ensures sound { IfSome result (SoundIn self.now) }
     {
         if place == 0 {
             return None;
         }
         let c = self.record_at(place);
-        match RecordKind::of(c.kind) {
-            Some(kind) => Some(step_of(self.rows, kind, c)),
-            None => None,
-        }
+        let kind = RecordKind::try_from(c.kind).ok()?;
+        Some(c.step(kind, self.rows))
     }
 
     /// The word of the table with the index, from 0; none outside.
     pub fn table_word(&self, index: u32) -> Option<u32>
         ensures { result ≡ word_at self.now.table.now index }
     {
-        let i = index as usize;
-        if i < self.table.len() {
-            Some(self.table[i])
-        } else {
-            None
-        }
+        self.table.get(index as usize).copied()
     }
 }
