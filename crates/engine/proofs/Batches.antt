@@ -1,10 +1,9 @@
 -- The loops over the pixels of a batch, one pixel on.
-use Rattle.std.proofs.Common.{◌≡◌, ℕ, ◌+◌, ◌-◌, ◌*◌, ◌<◌, ◌≤◌, min, cond, eqb, List, [], ◌∷◌, ◌++◌, map, length, get_or, take, drop, set, is_some, Some, None, sym, refl, ap, ◌∙◌, subst, inl, inr, suc-mul, arith}
+use Rattle.std.proofs.Common.{◌≡◌, ℕ, ◌+◌, ◌*◌, ◌<◌, ◌≤◌, min, cond, eqb, List, [], ◌∷◌, ◌++◌, map, length, get_or, take, drop, set, is_some, Some, None, sym, refl, ap, ◌∙◌, inl, inr, suc-mul, arith}
 use Rattle.std.specs.List.{AllByRecursion}
 use Rattle.std.proofs.lemmas.Bool.{cases_Bool, cases_eq, cases_lt, ne_eqb, true≢false}
-use Rattle.std.proofs.lemmas.List.{take_more, take_all, drop_all, append-nil, get_or-append_right, get_or-drop, length-map, length-take-le, length-append, length-drop, get_or_default, map_push}
+use Rattle.std.proofs.lemmas.List.{take_more, take_all, drop_all, get_or-append_right, get_or-drop, length-map, length-take-le, length-append, length-drop, get_or_default, map_push}
 use Rattle.std.proofs.lemmas.List.Edits.{map_over_more}
-use Rattle.std.proofs.ByRecursion.{All-get_or}
 use Rattle.schedule.specs.Rounds.{lesser, turn, total}
 use Rattle.schedule.proofs.Lowest.{lowest-push, some_same, lesser_other}
 use Rattle.transform.specs.Steps.{step_at}
@@ -30,19 +29,19 @@ module _ {X : Type 0} (xs : List X) (n : ℕ) (e : n ≡ min (length xs) 64) whe
 
   module _ {Y : Type 0} (ys : List Y) (full : length ys ≡ 64) where
     -- a list of 64 has as many first elements
-    pub length_counted : length (take (n - 0) ys) ≡ n
-    length_counted = let k : n - 0 ≡ n = omega arith in ap (λ i. length (take i ys)) k ∙ length-take-le n ys (omega arith)
+    pub length_counted : length (take n ys) ≡ n
+    length_counted = length-take-le n ys (omega arith)
 
     -- and those after them are those past the entries
-    pub drop_counted : drop (n - 0) ys ≡ drop (length xs) ys
+    pub drop_counted : drop n ys ≡ drop (length xs) ys
     drop_counted =
         elim (cases_lt (length xs) 64) [
-          | inl l ↦ let k : n - 0 ≡ length xs = omega arith in ap (λ i. drop i ys) k
-          | inr l ↦ drop_all (n - 0) ys (omega arith) ∙ sym (drop_all (length xs) ys (omega arith))
+          | inl l ↦ let k : n ≡ length xs = omega arith in ap (λ i. drop i ys) k
+          | inr l ↦ drop_all n ys (omega arith) ∙ sym (drop_all (length xs) ys (omega arith))
         ]
 
 -- with the step at the place at hand, a turn is the machine's
-pub turned_turn : (s : Setting) (place : ℕ) (t : Step) → step_at s.rows s.records place ≡ Some t → (p : Pixel) → turned s.meaning s.table s.budget place t p ≡ turn (machine s) place p
+pub turned_turn : (s : Setting) (place : ℕ) (t : Step) → step_at s.rows s.records place ≡ Some t → (p : Pixel) → turned s place t p ≡ turn (machine s) place p
 turned_turn s place t e p =
     elim (cases_eq p.place place) [
       | inl q ↦
@@ -85,14 +84,6 @@ module _ (f : Pixel → Pixel) (xs ys : List Pixel) (i : ℕ) (h : i < length xs
       let s : map f (take (i + 1) xs) ≡ map f (take i xs) ++ q ∷ [] =
       ap (map f) (take_more xs i no_pixel h) ∙ map_push f (take i xs) (get_or xs i no_pixel) ∙ ap (λ p. map f (take i xs) ++ p ∷ []) (sym (e ∙ ap f as_before)) in
       sym (ap lowest_place s ∙ lowest-push (λ p. p.place) (λ p. is_some p.ending) (map f (take i xs)) q)
-
-  -- what holds of all holds of pixel i still
-  pub holds_at : (P : Pixel → Type 0) → AllByRecursion P xs → P (get_or ys i no_pixel)
-  holds_at P g = subst P (sym as_before) (All-get_or P xs i no_pixel h g)
-
--- all are changed in the end
-pub change_all : (f : Pixel → Pixel) (xs ys : List Pixel) (i : ℕ) → length xs ≤ i → ys ≡ map f (take i xs) ++ drop i xs → ys ≡ map f xs
-change_all f xs ys i h inv = inv ∙ ap (λ zs. map f (take i xs) ++ zs) (drop_all i xs h) ∙ append-nil (map f (take i xs)) ∙ ap (map f) (take_all i xs h)
 
 module _ (s : Setting) where
   -- the lowest place of sound pixels is a record's

@@ -19,15 +19,15 @@ use Rattle.transform.specs.declared.kind.RecordKind.TheVariants.{Literal, Copy, 
 use Rattle.transform.specs.declared.parts.Row.{Row}
 use Rattle.transform.specs.declared.parts.Record.{Record}
 use Rattle.transform.specs.declared.step.Step.{Step}
-use Rattle.engine.specs.declared.budget.Budget.{Budget}
 use Rattle.engine.specs.declared.effect.Effect.{Effect}
 use Rattle.engine.specs.declared.effect.Effect.TheVariants.{Put, Go}
 use Rattle.engine.specs.declared.ending.Ending.{Ending}
 use Rattle.engine.specs.declared.ending.Ending.TheVariants.{Done, Spent}
 use Rattle.engine.specs.declared.pixel.Pixel.{Pixel}
+use Rattle.engine.specs.declared.settings.Settings.{Settings}
 use Rattle.engine.specs.Effects.{putting, putting_whole, putting_entry, effect_of}
 use Rattle.engine.specs.Pixels.{ending_at, standing, settled, taken, stepped}
-use Rattle.engine.specs.Runs.{Setting, setting_of, machine, start_of, Running, Sound}
+use Rattle.engine.specs.Runs.{Setting, setting, machine, start_of, Running, Sound}
 use Rattle.engine.specs.Start.{start_registers}
 
 -- every place but 0 of the records has a step, which names rows and leads to records
@@ -169,13 +169,17 @@ module _ (s : Setting) where
         let k : (lone (machine s) p).steps ≡ r.0 = let c = reaches_counts r.0 p (lone (machine s) p) g r.1 in omega arith in
         subst (λ n. Reaches (machine s) p n (lone (machine s) p)) (sym k) r.1
 
+-- under settings every pixel ends
+pub settings_end : (m : Meaning) (s : Settings) → Ends (machine (setting m s)) (Sound (setting m s))
+settings_end m s = pixels_end (setting m s) (accepted_fit s.transform)
+
 -- a pixel at its start is sound: an accepted transform has a record at place 1
-pub start_sound : (m : Meaning) (t : Accepted) (b : Budget) (uniforms inputs : List ℕ) → Sound (setting_of m t b uniforms) (start_of (setting_of m t b uniforms) inputs)
-start_sound m t b uniforms inputs =
-    let few = t.few_records.0 in
-    standing_sound (setting_of m t b uniforms) (start_registers m t.rows.now uniforms inputs) 1 0 (omega arith) (omega arith)
+pub start_sound : (m : Meaning) (s : Settings) (inputs : List ℕ) → Sound (setting m s) (start_of (setting m s) inputs)
+start_sound m s inputs =
+    let few = s.transform.few_records.0 in
+    standing_sound (setting m s) (start_registers m s.transform.rows.now s.uniforms.now inputs) 1 0 (omega arith) (omega arith)
 
 -- so are all pixels at their start
-pub starts_sound : (m : Meaning) (t : Accepted) (b : Budget) (uniforms : List ℕ) (inputs : List (List ℕ)) → AllByRecursion (Sound (setting_of m t b uniforms)) (map (start_of (setting_of m t b uniforms)) inputs)
-starts_sound m t b uniforms [] = tt
-starts_sound m t b uniforms (words ∷ inputs) = (start_sound m t b uniforms words, starts_sound m t b uniforms inputs)
+pub starts_sound : (m : Meaning) (s : Settings) (inputs : List (List ℕ)) → AllByRecursion (Sound (setting m s)) (map (start_of (setting m s)) inputs)
+starts_sound m s [] = tt
+starts_sound m s (words ∷ inputs) = (start_sound m s words, starts_sound m s inputs)

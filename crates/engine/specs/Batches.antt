@@ -1,7 +1,6 @@
 -- Pixels that run together.
-use Rattle.std.specs.Prelude.{ℕ, cond, List, ◌++◌, map, length, take, drop, replicate, is_some, Some, None, Option, ◌==◌, nat_lt, slice_index_or}
+use Rattle.std.specs.Prelude.{ℕ, if◌then◌else◌, List, ◌++◌, map, length, take, drop, replicate, is_some, Some, None, Option, ◌==◌, nat_lt, slice_index_or}
 use Rattle.schedule.specs.Rounds.{lower, lowest_by, rounds}
-use Rattle.number.specs.Meaning.{Meaning}
 use Rattle.transform.specs.declared.step.Step.{Step}
 use Rattle.engine.specs.declared.ending.Ending.TheVariants.{Done}
 use Rattle.engine.specs.declared.pixel.Pixel.{Pixel}
@@ -14,15 +13,19 @@ resting = record { registers = replicate 64 0; place = 0; steps = 0; ending = So
 
 -- the pixel with an index, from 0
 abbrev pub pixel_at : List Pixel → ℕ → Option Pixel
-pixel_at pixels i = cond (nat_lt i (length pixels)) (Some (slice_index_or pixels i resting)) None
+pixel_at pixels i = if nat_lt i (length pixels) then Some (slice_index_or pixels i resting) else None
+
+-- the pixel after a step that has been read at its place
+abbrev pub taking : Setting → Step → Pixel → Pixel
+taking s step p = taken s.meaning s.table s.budget p (Some step)
 
 -- in a round at a place a pixel takes the step that stands there, if it has no ending and stands there
-abbrev pub turned : Meaning → List ℕ → ℕ → ℕ → Step → Pixel → Pixel
-turned m table budget place s p = cond (is_some p.ending) p (cond (p.place == place) (taken m table budget p (Some s)) p)
+abbrev pub turned : Setting → ℕ → Step → Pixel → Pixel
+turned s place step p = if is_some p.ending then p else if p.place == place then taking s step p else p
 
 -- the lower of a place, if there is one, and that of a pixel, if it has no ending
 abbrev pub lowered : Option ℕ → Pixel → Option ℕ
-lowered low p = cond (is_some p.ending) low (lower low (Some p.place))
+lowered low p = if is_some p.ending then low else lower low (Some p.place)
 
 -- the lowest place at which a pixel without an ending stands
 abbrev pub lowest_place : List Pixel → Option ℕ

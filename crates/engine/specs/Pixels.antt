@@ -1,5 +1,5 @@
 -- One pixel, step by step.
-use Rattle.std.specs.Prelude.{ℕ, ◌+◌, cond, List, Some, None, Ok, Err, Option, Result, ◌==◌, slice_index, slice_set}
+use Rattle.std.specs.Prelude.{ℕ, ◌+◌, if◌then◌else◌, List, Some, None, Ok, Err, Option, Result, ◌==◌, slice_index, slice_set}
 use Rattle.number.specs.Meaning.{Meaning}
 use Rattle.transform.specs.Steps.{step_at}
 use Rattle.transform.specs.declared.parts.Row.{Row}
@@ -14,7 +14,7 @@ use Rattle.engine.specs.Effects.{effect_of}
 
 -- the ending at a place after so many steps: done at place 0, spent where the budget is used up
 abbrev pub ending_at : ℕ → ℕ → ℕ → Option Ending
-ending_at budget place steps = cond (place == 0) (Some Done) (cond (steps == budget) (Some Spent) None)
+ending_at budget place steps = if place == 0 then Some Done else if steps == budget then Some Spent else None
 
 -- the pixel that stands at a place with some registers, after so many steps
 abbrev pub standing : ℕ → List ℕ → ℕ → ℕ → Pixel

@@ -7,6 +7,7 @@ use Rattle.transform.specs.declared.parts.Row.{Row}
 use Rattle.transform.specs.declared.parts.Record.{Record}
 use Rattle.engine.specs.declared.budget.Budget.{Budget}
 use Rattle.engine.specs.declared.pixel.Pixel.{Pixel}
+use Rattle.engine.specs.declared.settings.Settings.{Settings}
 use Rattle.engine.specs.Pixels.{stepped}
 use Rattle.engine.specs.Start.{started}
 
@@ -22,6 +23,10 @@ pub record Setting : Type 0 where
 -- the setting of a number kind, an accepted transform, a budget and uniform words
 abbrev pub setting_of : Meaning → Accepted → Budget → List ℕ → Setting
 setting_of m t b uniforms = record { meaning = m; rows = t.rows.now; records = t.records.now; table = t.table.now; budget = b.steps; uniforms = uniforms }
+
+-- the setting of a number kind under settings
+abbrev pub setting : Meaning → Settings → Setting
+setting m s = setting_of m s.transform s.budget s.uniforms.now
 
 -- the pixels of a setting as a machine: a pixel stands at its place, has ended once it has an ending, and never takes more steps than the budget
 abbrev pub machine : Setting → Machine Pixel

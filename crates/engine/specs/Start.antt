@@ -1,5 +1,5 @@
 -- A pixel at its start.
-use Rattle.std.specs.Prelude.{ℕ, zero, suc, cond, List, [], ◌∷◌, ◌++◌, slice_index, slice_index_or}
+use Rattle.std.specs.Prelude.{ℕ, zero, suc, if◌then◌else◌, List, [], ◌∷◌, ◌++◌, slice_index, slice_index_or}
 use Rattle.number.specs.Meaning.{Meaning}
 use Rattle.transform.specs.Parts.{row_at, is_number, is_in, is_uniform}
 use Rattle.transform.specs.declared.parts.Row.{Row}
@@ -8,11 +8,11 @@ use Rattle.engine.specs.Pixels.{standing}
 
 -- the word that is given to the register of row i: an in row has its channel's input word, a uniform its set word or else its default, any other its start word
 abbrev pub given_word : List ℕ → List ℕ → Row → ℕ → ℕ
-given_word uniforms inputs row i = cond (is_in row) (slice_index inputs row.channel) (cond (is_uniform row) (slice_index_or uniforms i row.word) row.word)
+given_word uniforms inputs row i = if is_in row then slice_index inputs row.channel else if is_uniform row then slice_index_or uniforms i row.word else row.word
 
 -- that word, admitted where the register holds a number
 abbrev pub start_word : Meaning → List ℕ → List ℕ → Row → ℕ → ℕ
-start_word m uniforms inputs row i = cond (is_number row) (m.admit (given_word uniforms inputs row i)) (given_word uniforms inputs row i)
+start_word m uniforms inputs row i = if is_number row then m.admit (given_word uniforms inputs row i) else given_word uniforms inputs row i
 
 -- f 0 to f (n - 1)
 unfoldable pub listed : (ℕ → ℕ) → ℕ → List ℕ

@@ -1,12 +1,16 @@
 //! How many steps a pixel may take.
-ghost use Rattle.std.specs.Prelude.{◌≡◌, ◌<◌, MatchResult};
-ghost use Rattle.engine.specs.Endings.{zero_budget};
+ghost use Rattle.std.specs.Prelude.{◌≡◌, ◌^◌, ◌<◌, Some, MatchResult};
+ghost use Rattle.engine.specs.Endings.{zero_budget, zero_budget_text};
+
+use std::error::Error;
+use std::fmt;
 
 /// A number of steps, never 0.
 #[derive(Clone, Copy)]
 pub struct Budget {
     steps: u16,
     ghost some: { 0 < steps },
+    ghost few: { steps < 2 ^ 16 },
 }
 
 /// The refusal of a budget of 0 steps.
@@ -21,6 +25,16 @@ impl ZeroBudget {
         14
     }
 }
+
+impl fmt::Display for ZeroBudget {
+    ghost output = { λ _. Some zero_budget_text };
+
+    fn fmt<W: fmt::Write>(&self, f: &mut fmt::Formatter<W>) -> fmt::Result {
+        f.write_str("a budget of 0 steps is refused with 14")
+    }
+}
+
+impl Error for ZeroBudget {}
 
 impl Budget {
     /// The budget of so many steps; 0 is refused.

@@ -1,8 +1,10 @@
 //! How a pixel's run ends.
-ghost use Rattle.std.specs.Prelude.{◌≡◌};
-ghost use Rattle.engine.specs.Endings.{ending_number};
+ghost use Rattle.std.specs.Prelude.{◌≡◌, Some};
+ghost use Rattle.engine.specs.Endings.{ending_number, ending_text};
+ghost use Rattle.engine.specs.declared.ending.Ending.TheVariants.{Stopped};
 
 use number::kind::Stop;
+use std::fmt;
 
 /// How a run ended.
 #[derive(Clone, Copy, PartialEq, Eq, Debug)]
@@ -17,16 +19,48 @@ pub enum Ending {
     Spent,
 }
 
+/// Every ending, by its number.
+pub const ENDINGS: [Ending; 5] = [
+    Ending::Done,
+    Ending::Stopped(Stop::DivisionByZero),
+    Ending::Stopped(Stop::OutOfRange),
+    Ending::OutsideTable,
+    Ending::Spent,
+];
+
 impl Ending {
     /// The number by which an ending is reported, 0 to 4.
     pub fn number(self) -> u8
         ensures { result ≡ ending_number self }
     {
+        // A match and no cast: a variant that carries a stop has no number of its own.
         match self {
             Ending::Done => 0,
             Ending::Stopped(stop) => stop.number(),
             Ending::OutsideTable => 3,
             Ending::Spent => 4,
         }
+    }
+}
+
+impl From<Stop> for Ending {
+    ghost from_gives = { λ stop ending. ending ≡ Stopped stop };
+
+    fn from(stop: Stop) -> Ending {
+        Ending::Stopped(stop)
+    }
+}
+
+impl fmt::Display for Ending {
+    ghost output = { λ ending. Some (ending_text ending) };
+
+    fn fmt<W: fmt::Write>(&self, f: &mut fmt::Formatter<W>) -> fmt::Result {
+        f.pad(match self {
+            Ending::Done => "done",
+            Ending::Stopped(Stop::DivisionByZero) => "divided by zero",
+            Ending::Stopped(Stop::OutOfRange) => "out of range",
+            Ending::OutsideTable => "outside the table",
+            Ending::Spent => "spent",
+        })
     }
 }

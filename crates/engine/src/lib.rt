@@ -7,4 +7,5 @@ pub mod budget;
 mod effect;
 pub mod ending;
 pub mod pixel;
+pub mod settings;
 mod start;

@@ -1,17 +1,17 @@
 //! One pixel: its registers, its place, its steps and its ending.
-ghost use Rattle.std.specs.Prelude.{◌≡◌, ◌<◌, false, length, is_some, Some};
-ghost use Rattle.transform.specs.Steps.{Sound};
-ghost use Rattle.engine.specs.Pixels.{ending_at, standing, taken, stepped};
-ghost use Rattle.engine.specs.Batches.{turned};
-ghost use Rattle.engine.specs.Start.{started};
-ghost use Rattle.engine.specs.Runs.{setting_of, lone_run, EndsRun, Running};
+ghost use Rattle.std.specs.Prelude.{◌≡◌, ◌<◌, false, length, is_some};
+ghost use Rattle.transform.specs.Held.{SoundIn};
+ghost use Rattle.engine.specs.Pixels.{ending_at, standing};
+ghost use Rattle.engine.specs.Batches.{taking, turned};
+ghost use Rattle.engine.specs.Runs.{setting, machine, start_of, lone_run, EndsRun, Running};
 
 use crate::budget::Budget;
 use crate::effect::{Effect, effect_of};
 use crate::ending::Ending;
+use crate::settings::Settings;
 use crate::start::start_registers;
 use number::kind::NumberKind;
-use transform::{Accepted, Step};
+use transform::Step;
 
 /// A pixel on its way, or at its end once it has an ending.
 #[derive(Clone, Copy)]
@@ -37,20 +37,14 @@ fn ending_at(budget: Budget, place: u16, steps: u16) -> Option<Ending>
 
 impl Pixel {
     // The pixel with these input words, at its start.
-    pub(crate) fn start<K: NumberKind>(
-        transform: &Accepted,
-        budget: Budget,
-        uniforms: &[u32],
-        inputs: &[u32],
-    ) -> Pixel
-        ensures { result ≡ started K.NumberKind.meaning transform.now.rows.now budget.steps uniforms.now inputs.now }
+    pub(crate) fn start<K: NumberKind>(settings: &Settings, inputs: &[u32]) -> Pixel
+        ensures { result ≡ start_of (setting K.NumberKind.meaning settings.now) inputs.now }
     {
-        let registers = start_registers::<K>(transform, uniforms, inputs);
         Pixel {
-            registers,
+            registers: start_registers::<K>(settings, inputs),
             place: 1,
             steps: 0,
-            ending: ending_at(budget, 1, 0),
+            ending: ending_at(settings.budget, 1, 0),
         }
     }
 
@@ -63,66 +57,56 @@ impl Pixel {
     }
 
     // One step of a pixel that has no ending.
-    fn step<K: NumberKind>(&mut self, transform: &Accepted, budget: Budget)
-        requires { Running (length transform.now.records.now) budget.steps self.old }
-        ensures { self.new ≡ stepped K.NumberKind.meaning transform.now.rows.now transform.now.records.now transform.now.table.now budget.steps self.old }
+    fn step<K: NumberKind>(&mut self, settings: &Settings)
+        requires { let s = setting K.NumberKind.meaning settings.now in Running (length s.records) s.budget self.old }
+        ensures { self.new ≡ (machine (setting K.NumberKind.meaning settings.now)).step self.old }
     {
-        if let Some(step) = transform.step_at(self.place) {
-            self.take::<K>(transform, budget, &step);
+        if let Some(step) = settings.transform.step_at(self.place) {
+            self.take::<K>(settings, &step);
         }
     }
 
     // Takes a step that has been read: counts it, and puts its word, goes to its place or stops.
-    fn take<K: NumberKind>(&mut self, transform: &Accepted, budget: Budget, step: &Step)
-        requires names { Sound (length transform.now.rows.now) (length transform.now.records.now) step.now }
-        requires unspent { self.old.steps < budget.steps }
-        ensures { self.new ≡ taken K.NumberKind.meaning transform.now.table.now budget.steps self.old (Some step.now) }
+    fn take<K: NumberKind>(&mut self, settings: &Settings, step: &Step)
+        requires names { SoundIn settings.now.transform step.now }
+        requires unspent { self.old.steps < settings.now.budget.steps }
+        ensures { self.new ≡ taking (setting K.NumberKind.meaning settings.now) step.now self.old }
     {
-        let a = self.registers[step.a as usize];
-        let b = self.registers[step.b as usize];
+        let a = self.registers[usize::from(step.a)];
+        let b = self.registers[usize::from(step.b)];
         self.steps += 1;
-        match effect_of::<K>(transform, step, a, b) {
+        match effect_of::<K>(&settings.transform, step, a, b) {
             Ok(Effect::Put(word)) => {
-                self.registers[step.to as usize] = word;
-                self.stand(step.next, budget);
+                self.registers[usize::from(step.to)] = word;
+                self.stand(step.next, settings.budget);
             }
-            Ok(Effect::Go(place)) => self.stand(place, budget),
+            Ok(Effect::Go(place)) => self.stand(place, settings.budget),
             Err(ending) => self.ending = Some(ending),
         }
     }
 
     // In a round at the place the pixel takes the step there, if it has no ending and stands there.
-    pub(crate) fn turn<K: NumberKind>(
-        &mut self,
-        transform: &Accepted,
-        budget: Budget,
-        place: u16,
-        step: &Step,
-    )
-        requires names { Sound (length transform.now.rows.now) (length transform.now.records.now) step.now }
-        requires unspent { is_some self.old.ending ≡ false → self.old.steps < budget.steps }
-        ensures { self.new ≡ turned K.NumberKind.meaning transform.now.table.now budget.steps place step.now self.old }
+    pub(crate) fn turn<K: NumberKind>(&mut self, settings: &Settings, place: u16, step: &Step)
+        requires names { SoundIn settings.now.transform step.now }
+        requires unspent { is_some self.old.ending ≡ false → self.old.steps < settings.now.budget.steps }
+        ensures { self.new ≡ turned (setting K.NumberKind.meaning settings.now) place step.now self.old }
     {
         if self.ending.is_none() && self.place == place {
-            self.take::<K>(transform, budget, step);
+            self.take::<K>(settings, step);
         }
     }
 }
 
-/// Runs one pixel by itself, from its input words (one for each channel) to its ending.
-/// A uniform row i takes word i of `uniforms`, or its default where there is none.
-pub fn run_alone<K: NumberKind>(
-    transform: &Accepted,
-    budget: Budget,
-    uniforms: &[u32],
-    inputs: &[u32],
-) -> Pixel
-    ensures end { result ≡ lone_run (setting_of K.NumberKind.meaning transform.now budget uniforms.now) inputs.now }
-    ensures reached { EndsRun (setting_of K.NumberKind.meaning transform.now budget uniforms.now) inputs.now result }
-{
-    let mut pixel = Pixel::start::<K>(transform, budget, uniforms, inputs);
-    while pixel.ending.is_none() {
-        pixel.step::<K>(transform, budget);
+impl Settings<'_> {
+    /// Runs one pixel by itself, from its input words (one for each channel) to its ending.
+    pub fn run_alone<K: NumberKind>(&self, inputs: &[u32]) -> Pixel
+        ensures end { result ≡ lone_run (setting K.NumberKind.meaning self.now) inputs.now }
+        ensures reached { EndsRun (setting K.NumberKind.meaning self.now) inputs.now result }
+    {
+        let mut pixel = Pixel::start::<K>(self, inputs);
+        while pixel.ending.is_none() {
+            pixel.step::<K>(self);
+        }
+        pixel
     }
-    pixel
 }

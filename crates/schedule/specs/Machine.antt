@@ -1,5 +1,5 @@
 -- A machine that goes step by step, and the run of one of its states by itself.
-use Rattle.std.specs.Prelude.{◌≡◌, ℕ, zero, suc, ◌<◌, Bool, true, false, cond}
+use Rattle.std.specs.Prelude.{◌≡◌, ℕ, zero, suc, ◌<◌, Bool, true, false, if◌then◌else◌}
 
 -- a state stands at a place, has ended or not and has at most so many steps left; `step` is for one that has not ended
 pub record Machine (S : Type 0) : Type 0 where
@@ -21,7 +21,7 @@ Reaches m s (suc n) t = (m.ended s ≡ false) × Reaches m (m.step s) n t
 -- the state after n steps, or where it ended before
 abbrev pub after : {S : Type 0} → Machine S → ℕ → S → S
 after m zero s = s
-after m (suc n) s = cond (m.ended s) s (after m n (m.step s))
+after m (suc n) s = if m.ended s then s else after m n (m.step s)
 
 -- the end of a state's run by itself: no run is longer than the steps that are left
 abbrev pub lone : {S : Type 0} → Machine S → S → S
@@ -30,7 +30,7 @@ lone m s = after m (m.left s) s
 -- how many steps are taken, of n at most
 abbrev pub steps_in : {S : Type 0} → Machine S → ℕ → S → ℕ
 steps_in m zero s = 0
-steps_in m (suc n) s = cond (m.ended s) 0 (suc (steps_in m n (m.step s)))
+steps_in m (suc n) s = if m.ended s then 0 else suc (steps_in m n (m.step s))
 
 -- how many steps a state's run by itself takes
 abbrev pub steps : {S : Type 0} → Machine S → S → ℕ

@@ -1,5 +1,5 @@
 -- The rounds in which several states of a machine run together.
-use Rattle.std.specs.Prelude.{ℕ, zero, suc, ◌+◌, min, Bool, cond, List, [], ◌∷◌, map, Some, None, Option, ◌==◌}
+use Rattle.std.specs.Prelude.{ℕ, zero, suc, ◌+◌, min, Bool, if◌then◌else◌, List, [], ◌∷◌, map, Some, None, Option, ◌==◌}
 use Rattle.schedule.specs.Machine.{Machine}
 
 -- the lesser of a place and another one, if there is another
@@ -15,7 +15,7 @@ lower (Some p) o = Some (lesser p o)
 -- the lowest place of the states that have not ended, by the states' places and endings
 abbrev pub lowest_by : {S : Type 0} → (S → ℕ) → (S → Bool) → List S → Option ℕ
 lowest_by place ended [] = None
-lowest_by place ended (s ∷ ss) = cond (ended s) (lowest_by place ended ss) (lower (Some (place s)) (lowest_by place ended ss))
+lowest_by place ended (s ∷ ss) = if ended s then lowest_by place ended ss else lower (Some (place s)) (lowest_by place ended ss)
 
 -- the lowest place at which a state stands that has not ended; none where all have ended
 abbrev pub lowest : {S : Type 0} → Machine S → List S → Option ℕ
@@ -23,7 +23,7 @@ lowest m ss = lowest_by m.place m.ended ss
 
 -- in a round at the place p a state takes its step if it has not ended and stands there
 abbrev pub turn : {S : Type 0} → Machine S → ℕ → S → S
-turn m p s = cond (m.ended s) s (cond (m.place s == p) (m.step s) s)
+turn m p s = if m.ended s then s else if m.place s == p then m.step s else s
 
 -- the states after a round at the place p
 abbrev pub round : {S : Type 0} → Machine S → ℕ → List S → List S

@@ -5,5 +5,5 @@ use Rattle.engine.proofs.start.start_registers.Given as goal
 
 abbrev pub invariant-loop-i : goal.invariant-loop-i
 invariant-loop-i g l =
-    (length l.registers ≡ 64) ×
-    (take l.i l.registers ≡ listed (λ i. start_word g.K.NumberKind.meaning l.uniforms l.inputs (row_at l.transform.rows.now i) i) l.i)
+    (length l.register-items ≡ 64) ×
+    (take l.i l.register-items ≡ listed (λ i. start_word g.K.NumberKind.meaning l.settings.uniforms.now l.inputs (row_at l.settings.transform.rows.now i) i) l.i)

@@ -5,14 +5,14 @@ use Rattle.std.proofs.lemmas.List.{length-take-le, length-map}
 use Rattle.schedule.specs.Machine.{lone}
 use Rattle.schedule.specs.Rounds.{rounds}
 use Rattle.schedule.proofs.Laws.{laws}
-use Rattle.engine.specs.Runs.{setting_of, machine, start_of, Sound}
-use Rattle.engine.proofs.Ends.{accepted_fit, start_sound, starts_sound, pixels_end}
+use Rattle.engine.specs.Runs.{setting, machine, start_of, Sound}
+use Rattle.engine.proofs.Ends.{settings_end, start_sound, starts_sound}
 use Rattle.engine.proofs.Batches.{take_counted, length_counted, drop_counted}
-use Rattle.engine.proofs.batch.run_together.Goals as goal
+use Rattle.engine.proofs.settings.Settings.run_together.Goals as goal
 
 pub run_rounds-requires : goal.run_rounds-requires
 run_rounds-requires g c =
-    let s = setting_of g.K.NumberKind.meaning c.args.transform.now c.args.budget c.args.uniforms.now in
+    let s = setting g.K.NumberKind.meaning c.args.self.now in
     let full : length c.args.batch.now.pixels ≡ 64 = search rules in
     let inputs = c.args.inputs.now in
     let n = c.min-count.result in
@@ -22,12 +22,12 @@ run_rounds-requires g c =
     let long = ap length start ∙ length-map (take n inputs) (start_of s) ∙ length-take-le n inputs (omega arith) in
     record {
       few = omega arith;
-      sound = subst (AllByRecursion (Sound s)) (sym start) (starts_sound g.K.NumberKind.meaning c.args.transform.now c.args.budget c.args.uniforms.now (take n inputs));
+      sound = subst (AllByRecursion (Sound s)) (sym start) (starts_sound g.K.NumberKind.meaning c.args.self.now (take n inputs));
     }
 
 pub returns : goal.returns
 returns g c =
-    let s = setting_of g.K.NumberKind.meaning c.args.transform.now c.args.budget c.args.uniforms.now in
+    let s = setting g.K.NumberKind.meaning c.args.self.now in
     let ps = c.args.batch.now.pixels in
     let full : length ps ≡ 64 = search rules in
     let inputs = c.args.inputs.now in
@@ -39,6 +39,6 @@ returns g c =
     record {
       ends = λ j. end j ++ drop_counted inputs n counts ps full j;
       count = c.run_rounds.ensures.count ∙ ap (rounds (machine s)) start;
-      sound = λ words. start_sound g.K.NumberKind.meaning c.args.transform.now c.args.budget c.args.uniforms.now words;
-      laws = laws (machine s) (pixels_end s (accepted_fit c.args.transform.now));
+      sound = λ words. start_sound g.K.NumberKind.meaning c.args.self.now words;
+      laws = laws (machine s) (settings_end g.K.NumberKind.meaning c.args.self.now);
     }
