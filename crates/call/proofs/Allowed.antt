@@ -1,12 +1,13 @@
 -- What holds of a run that no condition refuses, and what it leaves in each word.
-use Rattle.std.proofs.Common.{◌≡◌, ℕ, zero, suc, ◌+◌, ◌<◌, ◌≤◌, Bool, true, false, cond, not, ◌&&◌, eqb, ltb, List, length, get_or, Some, None, Option, sym, refl, ap, ◌∙◌, subst, ⊎_elim, arith}
+use Rattle.std.proofs.Common.{◌≡◌, ℕ, ◌+◌, ◌<◌, ◌≤◌, Bool, true, false, cond, not, ◌&&◌, eqb, ltb, List, length, get_or, Some, None, Option, sym, refl, ap, ◌∙◌, ⊎_elim, arith}
 use mathlib.Core.List.{map-map}
 use Rattle.std.specs.List.{range_with_len}
 use Rattle.std.proofs.lemmas.List.FromFn.{length-map-range_with_len, get_or-map-range_with_len}
 use Rattle.std.proofs.lemmas.List.{length-map}
-use Rattle.std.proofs.lemmas.Bool.{ltb-true, ltb-false, eqb-true, eqb-false, not-false, or_parts, cond-false, cases_Bool, cases_lt}
+use Rattle.std.proofs.lemmas.List.Folds.{list_any_at}
+use Rattle.std.proofs.lemmas.Bool.{ltb-true, ltb-false, eqb-true, eqb-false, not-false, or_parts, cond-false, cases_Bool, true≢false}
 use Rattle.frame.specs.Image.{Image}
-use Rattle.transform.specs.Parts.{row_at, is_in, is_out}
+use Rattle.transform.specs.Parts.{row_at, no_row, is_in, is_out}
 use Rattle.transform.specs.declared.parts.Row.{Row}
 use Rattle.engine.specs.Batches.{resting}
 use Rattle.engine.specs.Runs.{Setting, lone_run}
@@ -23,7 +24,7 @@ pub record Allowed (rows : List Row) (inn out : Image) (served first count given
   pub few : count ≤ 64
   pub same_pixels : inn.pixels ≡ out.pixels
   pub inside : first + count ≤ inn.pixels
-  pub channels : lacks_channel inn.channels out.channels rows (length rows) ≡ false
+  pub channels : lacks_channel inn.channels out.channels rows ≡ false
   pub long : given ≡ count
   pub room : served + count ≤ most_served
 
@@ -55,6 +56,13 @@ allowed rows inn out served first count given h =
 out_row : (row : Row) → is_out row ≡ true → is_in row ≡ false
 out_row row out = let e = eqb-true row.role 2 out in ⊎_elim (λ t. let f = eqb-true row.role 1 t in absurd (omega arith)) (λ f. f) (cases_Bool (is_in row))
 
+lacks_none : (ins outs : ℕ) (rows : List Row) → lacks_channel ins outs rows ≡ false → (i : ℕ) → i < length rows → row_lacks ins outs (row_at rows i) ≡ false
+lacks_none ins outs rows h i l =
+    ⊎_elim
+    (λ t. absurd (true≢false (sym (list_any_at (row_lacks ins outs) rows i no_row l t) ∙ h)))
+    (λ f. f)
+    (cases_Bool (row_lacks ins outs (row_at rows i)))
+
 row_inside : (ins outs : ℕ) (row : Row) → row_lacks ins outs row ≡ false → is_out row ≡ true → row.channel < outs
 row_inside ins outs row h out =
     let a : (is_out row && not (ltb row.channel outs)) ≡ false = sym (cond-false _ _ _ (out_row row out)) ∙ h in
@@ -62,14 +70,8 @@ row_inside ins outs row h out =
     ltb-true row.channel outs (not-false _ b)
 
 -- no out channel is lacking
-pub outs_inside : (ins outs : ℕ) (rows : List Row) (n : ℕ) → lacks_channel ins outs rows n ≡ false → OutsInside rows outs n
-outs_inside ins outs rows zero h i l out = absurd (omega arith)
-outs_inside ins outs rows (suc n) h i l out =
-    let b = or_parts (lacks_channel ins outs rows n) (row_lacks ins outs (row_at rows n)) h in
-    ⊎_elim
-    (λ m. outs_inside ins outs rows n b.0 i m out)
-    (λ m. let e : n ≡ i = omega arith in row_inside ins outs (row_at rows i) (subst (λ k. row_lacks ins outs (row_at rows k) ≡ false) e b.1) out)
-    (cases_lt i n)
+pub outs_inside : (ins outs : ℕ) (rows : List Row) → lacks_channel ins outs rows ≡ false → OutsInside rows outs (length rows)
+outs_inside ins outs rows h i l out = row_inside ins outs (row_at rows i) (lacks_none ins outs rows h i l) out
 
 -- the end of the run of pixel i of a batch
 pub end_at : (s : Setting) (inn : Image) (first count i : ℕ) → i < count → get_or (batch_ends s inn first count) i resting ≡ lone_run s (input_words inn (first + i))
@@ -84,5 +86,5 @@ served_words s inn out served first count given ok i d l =
     let room = ok.inside in
     let same = ok.same_pixels in
     let here : get_or (batch_ends s inn first count) i resting ≡ lone_run s (input_words inn (first + i)) = end_at s inn first count i l in
-    ends_here s.rows (batch_ends s inn first count) first out i d (omega arith) (omega arith) (outs_inside inn.channels out.channels s.rows (length s.rows) ok.channels)
+    ends_here s.rows (batch_ends s inn first count) first out i d (omega arith) (omega arith) (outs_inside inn.channels out.channels s.rows ok.channels)
     ∙ ap (λ end. end_word s.rows end d (out.word (first + i) d)) here

@@ -1,11 +1,10 @@
 -- The ends of runs, one by one: their marks and what is written of them.
-use Rattle.std.proofs.Common.{◌≡◌, ℕ, ◌+◌, ◌<◌, List, [], ◌∷◌, ◌++◌, map, length, get_or, take, set, sym, ap, ◌∙◌, arith}
-use Rattle.std.proofs.lemmas.List.{take_more, take_more_set, map_push, length-take-le}
+use Rattle.std.proofs.Common.{◌≡◌, ℕ, ◌+◌, ◌<◌, List, [], ◌∷◌, ◌++◌, length, get_or, take, sym, ap, ◌∙◌, arith}
+use Rattle.std.proofs.lemmas.List.{take_more, length-take-le}
 use Rattle.frame.specs.Image.{Image}
 use Rattle.transform.specs.declared.parts.Row.{Row}
 use Rattle.engine.specs.declared.pixel.Pixel.{Pixel}
-use Rattle.call.specs.declared.mark.Mark.{Mark}
-use Rattle.call.specs.Frames.{end_put, ends_put, mark_of}
+use Rattle.call.specs.Frames.{end_put, ends_put}
 
 -- one end more is written after the others
 ends_push : (rows : List Row) (xs : List Pixel) (x : Pixel) (p : ℕ) (m : Image) → ends_put rows (xs ++ x ∷ []) p m ≡ end_put rows x (p + length xs) (ends_put rows xs p m)
@@ -23,10 +22,3 @@ ends_more rows xs i p d before now after l h e =
     ∙ ap (λ n. end_put rows (get_or xs i d) (p + n) (ends_put rows (take i xs) p before)) (sym long)
     ∙ sym (ends_push rows (take i xs) (get_or xs i d) p before)
     ∙ ap (λ ys. ends_put rows ys p before) (sym (take_more xs i d l))
-
--- one mark more is filled
-pub marks_more : (marks : List Mark) (xs : List Pixel) (i : ℕ) (d : Pixel) (mark : Mark) → i < length marks → i < length xs → take i marks ≡ map mark_of (take i xs) → mark ≡ mark_of (get_or xs i d)
-    → take (i + 1) (set marks i mark) ≡ map mark_of (take (i + 1) xs)
-marks_more marks xs i d mark l k h e =
-    take_more_set marks i mark l ∙ ap (λ ms. ms ++ mark ∷ []) h ∙ ap (λ m. map mark_of (take i xs) ++ m ∷ []) e
-    ∙ sym (map_push mark_of (take i xs) (get_or xs i d)) ∙ ap (map mark_of) (sym (take_more xs i d k))

@@ -10,7 +10,7 @@ use Rattle.transform.specs.declared.parts.Row.{Row}
 use Rattle.engine.specs.Pixels.{standing}
 use Rattle.engine.specs.Start.{given_word, start_word, listed}
 use Rattle.engine.specs.Runs.{Setting, machine, lone_run}
-use Rattle.call.specs.Frames.{word_at, input_words}
+use Rattle.call.specs.Frames.{input_word, input_words}
 
 -- the words are the same on the channels of in rows
 abbrev pub SameInputs : List Row → List ℕ → List ℕ → Type 0
@@ -38,13 +38,13 @@ same_runs s xs ys h =
     (λ i. ap (λ w. cond (is_number (row_at s.rows i)) (s.meaning.admit w) w) (same_given s.uniforms xs ys (row_at s.rows i) i (h i))))
 
 -- the word of a pixel on a channel, among its input words
-input_at : (m n : Image) (p q c : ℕ) → word_at m p c ≡ word_at n q c → get_or (input_words m p) c 0 ≡ get_or (input_words n q) c 0
+input_at : (m n : Image) (p q c : ℕ) → input_word m p c ≡ input_word n q c → get_or (input_words m p) c 0 ≡ get_or (input_words n q) c 0
 input_at m n p q c e = ⊎_elim
-    (λ l. get_or-map-range_with_len (word_at m p) 0 8 c c 0 l (omega arith) ∙ e ∙ sym (get_or-map-range_with_len (word_at n q) 0 8 c c 0 l (omega arith)))
+    (λ l. get_or-map-range_with_len (input_word m p) 0 8 c c 0 l (omega arith) ∙ e ∙ sym (get_or-map-range_with_len (input_word n q) 0 8 c c 0 l (omega arith)))
     (λ l. get_or_past (input_words m p) c 0 l ∙ sym (get_or_past (input_words n q) c 0 l))
     (cases_lt c 8)
 
 -- pixels with the same words on the channels of in rows have the same run, in whatever images and places
-pub same_pixels : (s : Setting) (m n : Image) (p q : ℕ) → ((i : ℕ) → is_in (row_at s.rows i) ≡ true → word_at m p (row_at s.rows i).channel ≡ word_at n q (row_at s.rows i).channel)
+pub same_pixels : (s : Setting) (m n : Image) (p q : ℕ) → ((i : ℕ) → is_in (row_at s.rows i) ≡ true → input_word m p (row_at s.rows i).channel ≡ input_word n q (row_at s.rows i).channel)
     → lone_run s (input_words m p) ≡ lone_run s (input_words n q)
 same_pixels s m n p q h = same_runs s (input_words m p) (input_words n q) (λ i t. input_at m n p q (row_at s.rows i).channel (h i t))

@@ -1,5 +1,5 @@
 -- What a run reads from a frame and writes to one.
-use Rattle.std.specs.Prelude.{ℕ, zero, suc, ◌+◌, Bool, true, false, cond, List, [], ◌∷◌, map, length, Some, None, Option, slice_index}
+use Rattle.std.specs.Prelude.{ℕ, zero, suc, ◌+◌, Bool, true, false, if◌then◌else◌, List, [], ◌∷◌, map, length, Some, None, Option, slice_index}
 use Rattle.std.specs.List.{range_with_len}
 use Rattle.frame.specs.Image.{Image, sample, put_image}
 use Rattle.transform.specs.Parts.{row_at, is_out, channels}
@@ -15,16 +15,16 @@ word_of (Some w) = w
 word_of None = 0
 
 -- the word at a pixel and a channel, 0 where the image has none
-abbrev pub word_at : Image → ℕ → ℕ → ℕ
-word_at m p c = word_of (sample m p c)
+abbrev pub input_word : Image → ℕ → ℕ → ℕ
+input_word m p c = word_of (sample m p c)
 
 -- the words of a pixel on the channels 0 to 7
 abbrev pub input_words : Image → ℕ → List ℕ
-input_words m p = map (word_at m p) (range_with_len 0 channels)
+input_words m p = map (input_word m p) (range_with_len 0 channels)
 
 -- the image after an out row's word goes to the row's channel of pixel p; any other row's does not
 abbrev pub row_put : ℕ → Row → ℕ → Image → Image
-row_put p row w m = cond (is_out row) (put_image m p row.channel w) m
+row_put p row w m = if is_out row then put_image m p row.channel w else m
 
 -- the image after the first n rows' words are put into pixel p
 abbrev pub rows_put : List Row → List ℕ → ℕ → ℕ → Image → Image
@@ -41,7 +41,7 @@ is_done None = false
 
 -- the image after the end of a run is written into pixel p: the out words of a run that is done, and nothing of any other
 abbrev pub end_put : List Row → Pixel → ℕ → Image → Image
-end_put rows end p m = cond (is_done end.ending) (rows_put rows end.registers p (length rows) m) m
+end_put rows end p m = if is_done end.ending then rows_put rows end.registers p (length rows) m else m
 
 -- the image after the ends of runs are written into the pixels from p on
 abbrev pub ends_put : List Row → List Pixel → ℕ → Image → Image

@@ -1,5 +1,5 @@
 pub mod Refusals
-pub mod Settings
+pub mod Setups
 pub mod Tallies
 pub mod Requests
 pub mod Frames

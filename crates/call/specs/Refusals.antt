@@ -1,5 +1,5 @@
 -- The numbers by which refusals are reported.
-use Rattle.std.specs.Prelude.{ℕ}
+use Rattle.std.specs.Prelude.{ℕ, List, codes}
 use Rattle.call.specs.declared.refusal.SetRefusal.{SetRefusal}
 use Rattle.call.specs.declared.refusal.SetRefusal.TheVariants.{NoUniform, FlagWord}
 use Rattle.call.specs.declared.refusal.RunRefusal.{RunRefusal}
@@ -18,3 +18,17 @@ run_number PastEnd = 19
 run_number Channel = 20
 run_number Marks = 21
 run_number Served = 22
+
+-- what a refusal of set says
+abbrev pub set_text : SetRefusal → List ℕ
+set_text NoUniform = codes "the row does not exist or is not a uniform"
+set_text FlagWord = codes "the word of a flag is above 1"
+
+-- what a refusal of run says
+abbrev pub run_text : RunRefusal → List ℕ
+run_text Count = codes "the count is 0 or above 64"
+run_text PixelCounts = codes "the pixel counts of the two frames differ"
+run_text PastEnd = codes "the batch passes the last pixel"
+run_text Channel = codes "a row's channel is not in its frame"
+run_text Marks = codes "the list of marks is not as long as the batch"
+run_text Served = codes "the call would serve more than 16,777,216 pixels"

@@ -1,5 +1,5 @@
 -- What a call counts.
-use Rattle.std.specs.Prelude.{◌≡◌, ℕ, ◌+◌, ◌*◌, ◌<◌, ◌≤◌, cond, List, [], ◌∷◌, length, ◌==◌, slice_index}
+use Rattle.std.specs.Prelude.{◌≡◌, ℕ, ◌+◌, ◌*◌, ◌<◌, ◌≤◌, if◌then◌else◌, List, [], ◌∷◌, length, ◌==◌, slice_index}
 use Rattle.engine.specs.Endings.{ending_number}
 use Rattle.call.specs.declared.mark.Mark.{Mark}
 use Rattle.call.specs.declared.tally.Tally.{Tally}
@@ -19,7 +19,7 @@ empty = record { endings = 0 ∷ 0 ∷ 0 ∷ 0 ∷ 0 ∷ []; served = 0; rounds 
 -- how many of the marks have the ending with the number e
 abbrev pub ended : ℕ → List Mark → ℕ
 ended e [] = 0
-ended e (m ∷ ms) = cond (ending_number m.ending == e) 1 0 + ended e ms
+ended e (m ∷ ms) = (if ending_number m.ending == e then 1 else 0) + ended e ms
 
 -- a tally once the endings of some marks are counted in it
 pub record Counted (before : Tally) (marks : List Mark) (after : Tally) : Type 0 where

@@ -2,13 +2,13 @@
 ghost use Rattle.std.specs.Prelude.{◌≡◌};
 ghost use Rattle.call.specs.Tallies.{Sound, empty};
 
-use crate::settings::Settings;
+use crate::setup::Setup;
 use crate::tally::Tally;
 
 /// A call that runs. It may be let go, and its tally is lost then.
 #[derive(Drop)]
 pub struct Armed<'a> {
-    settings: Settings<'a>,
+    setup: Setup<'a>,
     tally: Tally,
     ghost sound: { Sound tally },
 }
@@ -17,8 +17,8 @@ pub mod run;
 
 impl<'a> Armed<'a> {
     // A call that has served nothing yet.
-    pub(crate) fn fresh(settings: Settings<'a>) -> Armed<'a>
-        ensures settings { result.settings ≡ settings.entry }
+    pub(crate) fn fresh(setup: Setup<'a>) -> Armed<'a>
+        ensures setup { result.setup ≡ setup.entry }
         ensures tally { result.tally ≡ empty }
     {
         let tally = Tally {
@@ -26,7 +26,7 @@ impl<'a> Armed<'a> {
             served: 0,
             rounds: 0,
         };
-        Armed { settings, tally }
+        Armed { setup, tally }
     }
 
     /// Ends the call; answers how often each ending occurred in the batches that it served, and the sum of their rounds.

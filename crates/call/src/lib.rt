@@ -10,5 +10,5 @@ mod outputs;
 pub mod refusal;
 mod request;
 mod serve;
-mod settings;
+mod setup;
 pub mod tally;

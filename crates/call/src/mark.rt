@@ -1,6 +1,6 @@
 //! What a run reports of a pixel, and what it answers.
 ghost use Rattle.std.specs.Prelude.{◌≡◌};
-ghost use Rattle.call.specs.Frames.{ending_of, mark_of};
+ghost use Rattle.call.specs.Frames.{mark_of};
 
 use engine::ending::Ending;
 use engine::pixel::Pixel;
@@ -17,16 +17,8 @@ pub struct Mark {
 #[derive(Clone, Copy, PartialEq, Eq, Debug)]
 pub struct Answer {
     pub rounds: u32,
+    // A number, as the rules ask a run for the kind's number.
     pub kind: u8,
-}
-
-fn ending_of(ending: Option<Ending>) -> Ending
-    ensures { result ≡ ending_of ending }
-{
-    match ending {
-        Some(ending) => ending,
-        None => Ending::Spent,
-    }
 }
 
 impl Mark {
@@ -35,7 +27,7 @@ impl Mark {
         ensures { result ≡ mark_of end.now }
     {
         Mark {
-            ending: ending_of(end.ending),
+            ending: end.ending.unwrap_or(Ending::Spent),
             place: end.place,
             steps: end.steps,
         }

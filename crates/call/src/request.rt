@@ -1,16 +1,15 @@
 //! The conditions that refuse a run.
-ghost use Rattle.std.specs.Prelude.{◌≡◌, ◌+◌, ◌^◌, ◌<◌, length, None, nat_lt};
-ghost use Rattle.call.specs.Requests.{row_lacks, lacks_channel, refusal};
+ghost use Rattle.std.specs.Prelude.{◌≡◌, ◌+◌, ◌^◌, ◌<◌, OnOk, nat_lt};
+ghost use Rattle.call.specs.Requests.{row_lacks, lacks_channel, refusal, unless_refused};
 
 use crate::refusal::RunRefusal;
 use crate::tally::MOST_SERVED;
+use engine::batch::MOST_PIXELS;
 use frame::readable::Readable;
 use transform::{Accepted, Row};
 
-/// At most so many pixels are a batch.
-const MOST_PIXELS: usize = 64;
-
 // What is asked of a run: its batch, and how many marks are given.
+// A start and a count, and no range: the end of a batch that passes the last pixel may be no usize.
 #[derive(Clone, Copy)]
 pub(crate) struct Request {
     pub first: usize,
@@ -23,20 +22,18 @@ fn row_lacks(row: Row, in_channels: usize, out_channels: usize) -> bool
     ensures { result ≡ row_lacks in_channels out_channels row }
 {
     if row.is_in() {
-        row.channel as usize >= in_channels
+        usize::from(row.channel) >= in_channels
     } else {
-        row.is_out() && row.channel as usize >= out_channels
+        row.is_out() && usize::from(row.channel) >= out_channels
     }
 }
 
-fn lacks_channel(transform: &Accepted, in_channels: usize, out_channels: usize) -> bool
-    ensures { result ≡ lacks_channel in_channels out_channels transform.now.rows.now (length transform.now.rows.now) }
+// Whether one of the rows' channels is not in its frame.
+fn lacks_channel(rows: &[Row], in_channels: usize, out_channels: usize) -> bool
+    ensures { result ≡ lacks_channel in_channels out_channels rows.now }
 {
-    let mut lacks = false;
-    for i in 0..transform.row_count() as u16 {
-        lacks = lacks || row_lacks(transform.row_at(i), in_channels, out_channels);
-    }
-    lacks
+    rows.iter()
+        .any(|row| row_lacks(*row, in_channels, out_channels))
 }
 
 impl Request {
@@ -47,35 +44,35 @@ impl Request {
         self.count > pixels || self.first > pixels - self.count
     }
 
-    // The first condition that refuses the run, if one does.
-    pub(crate) fn refusal<I: Readable, O: Readable>(
+    // Whether the run is served; if not, the first condition that refuses it.
+    pub(crate) fn check<I: Readable, O: Readable>(
         self,
         transform: &Accepted,
         served: u32,
         input: &I,
         output: &O,
-    ) -> Option<RunRefusal>
-        ensures which { result ≡ refusal transform.now.rows.now (I.Readable.image input.now) (O.Readable.image output.now) served self.first self.count self.marks }
-        ensures fits { result ≡ None → self.first + self.count < 2 ^ 64 }
+    ) -> Result<(), RunRefusal>
+        ensures which { result ≡ unless_refused (refusal transform.now.rows.now (I.Readable.image input.now) (O.Readable.image output.now) served self.first self.count self.marks) }
+        ensures fits { OnOk result (self.first + self.count < 2 ^ 64) }
     {
         if self.count == 0 || self.count > MOST_PIXELS {
-            return Some(RunRefusal::Count);
+            return Err(RunRefusal::Count);
         }
         if input.pixels() != output.pixels() {
-            return Some(RunRefusal::PixelCounts);
+            return Err(RunRefusal::PixelCounts);
         }
         if self.passes_end(input.pixels()) {
-            return Some(RunRefusal::PastEnd);
+            return Err(RunRefusal::PastEnd);
         }
-        if lacks_channel(transform, input.channels(), output.channels()) {
-            return Some(RunRefusal::Channel);
+        if lacks_channel(transform.rows(), input.channels(), output.channels()) {
+            return Err(RunRefusal::Channel);
         }
         if self.marks != self.count {
-            return Some(RunRefusal::Marks);
+            return Err(RunRefusal::Marks);
         }
         if served as usize + self.count > MOST_SERVED {
-            return Some(RunRefusal::Served);
+            return Err(RunRefusal::Served);
         }
-        None
+        Ok(())
     }
 }

@@ -1,6 +1,6 @@
 //! The run of an armed call on frames.
 ghost use Rattle.std.specs.Prelude.{◌≡◌};
-ghost use Rattle.call.specs.Settings.{setting_with};
+ghost use Rattle.call.specs.Setups.{setting_with};
 ghost use Rattle.call.specs.Events.{Ran};
 
 use crate::armed::Armed;
@@ -23,8 +23,8 @@ impl Armed<'_> {
         count: usize,
         marks: &mut [Mark],
     ) -> Result<Answer, RunRefusal>
-        ensures settings { self.new.settings ≡ self.old.settings }
-        ensures ran { Ran (setting_with K.NumberKind.meaning self.old.settings)
+        ensures setup { self.new.setup ≡ self.old.setup }
+        ensures ran { Ran (setting_with K.NumberKind.meaning self.old.setup)
             (I.Readable.image input.now)
             (O.Readable.image output.old)
             self.old.tally
@@ -44,13 +44,12 @@ impl Armed<'_> {
             marks: marks.len(),
         };
         let served = self.tally.served;
-        match request.refusal::<I, O>(&self.settings.transform, served, input, output) {
-            Some(refusal) => return Err(refusal),
-            None => {}
-        }
-        let rounds = self.settings.serve::<K, I, O>(input, output, first, marks);
+        request.check::<I, O>(&self.setup.transform, served, input, output)?;
+        let rounds = self.setup.serve::<K, I, O>(input, output, first, marks);
         self.tally.note(marks, rounds);
-        let kind = K::kind_number();
-        Ok(Answer { rounds, kind })
+        Ok(Answer {
+            rounds,
+            kind: K::NUMBER,
+        })
     }
 }

@@ -1,21 +1,13 @@
-use Rattle.std.proofs.Common.{refl, ap, ◌∙◌, arith, length-set}
+use Rattle.std.proofs.Common.{ap, ◌∙◌, arith, length-set}
 use Rattle.transform.specs.Parts.{row_at}
-use Rattle.call.proofs.Filled.{filled_more, filled_all}
+use Rattle.call.proofs.Filled.{filled_more}
 use Rattle.call.proofs.open.row_words.Goals as goal
-
-pub loop-i-init : goal.loop-i-init
-loop-i-init c = (refl, refl)
 
 pub loop-i-preserved : goal.loop-i-preserved
 loop-i-preserved c =
-    let xs = c.loop-i.words in
+    let xs = c.loop-i.word-items in
     let i = c.loop-i.i in
     let full = c.loop-i.invariant.0 in (
       length-set xs i c.row_at.result.word ∙ full,
       filled_more (λ j. (row_at c.args.transform.now.rows.now j).word) 0 xs i i _ (omega arith) (omega arith) (ap (λ r. r.word) c.row_at.ensures.row) c.loop-i.invariant.1,
     )
-
-pub returns : goal.returns
-returns c =
-    let full = c.loop-i.invariant.0 in
-    filled_all (λ j. (row_at c.args.transform.now.rows.now j).word) 0 c.loop-i.words c.loop-i.i 64 (omega arith) (omega arith) c.loop-i.invariant.1

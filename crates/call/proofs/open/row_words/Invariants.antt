@@ -5,5 +5,5 @@ use Rattle.call.proofs.open.row_words.Given as goal
 
 abbrev pub invariant-loop-i : goal.invariant-loop-i
 invariant-loop-i l =
-    (length l.words ≡ 64) ×
-    (take l.i l.words ≡ map (λ i. (row_at l.transform.rows.now i).word) (range_with_len 0 l.i))
+    (length l.word-items ≡ 64) ×
+    (take l.i l.word-items ≡ map (λ i. (row_at l.transform.rows.now i).word) (range_with_len 0 l.i))

@@ -1,8 +1,0 @@
-use Rattle.std.proofs.Common.{◌≡◌, map, length, take}
-use Rattle.std.specs.List.{range_with_len}
-use Rattle.call.specs.Frames.{input_words}
-use Rattle.call.proofs.inputs.batch_words.Given as goal
-
-abbrev pub invariant-loop-i : goal.invariant-loop-i
-invariant-loop-i g l =
-    (length l.words ≡ 64) × (take l.i l.words ≡ map (input_words (g.I.Readable.image l.input)) (range_with_len l.first l.i))

@@ -1,5 +1,0 @@
-use Rattle.std.proofs.Common.{add-one, rules}
-use Rattle.call.proofs.request.lacks_channel.Goals as goal
-
-pub loop-i-preserved : goal.loop-i-preserved
-loop-i-preserved c = rw add-one (search rules)
