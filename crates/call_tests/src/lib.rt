@@ -14,12 +14,9 @@ mod runs;
 #[cfg(test)]
 mod uniforms;
 
-/// A set on an open call. On an armed call there is none: tools/set_or_run_in_the_wrong_state shows that one is refused.
-fn set_word(call: &mut Open, row: u16, word: u32) -> u8 {
-    match call.set(row, word) {
-        Ok(()) => 0,
-        Err(refusal) => refusal.number(),
-    }
+/// A set on an open call; a refusal by its number. On an armed call there is none: tools/set_or_run_in_the_wrong_state shows that one is refused.
+fn set_word(call: &mut Open, row: u16, word: u32) -> Result<(), u8> {
+    call.set(row, word).map_err(|refusal| refusal.number())
 }
 
 /// A call that is set up and armed. Arming uses it up, so it is not set again: the same tool shows it.

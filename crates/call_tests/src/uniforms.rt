@@ -59,9 +59,7 @@ const RECORDS: [Record; 2] = [
 ];
 
 fn adding<'a>(held: &mut Accepted<'a>) -> Result<(), Fail> {
-    if check(held, &ROWS, &RECORDS, &[]).is_err() {
-        return Err(Fail::new("the transform is refused"));
-    }
+    check(held, &ROWS, &RECORDS, &[])?;
     Ok(())
 }
 
@@ -70,11 +68,11 @@ fn rows_and_words_that_may_not_be_set(rt: HostRuntime) -> Result<(), Fail> {
     let mut held = fork();
     adding(&mut held)?;
     let mut call = Open::new(held, Budget::new(1)?);
-    assert_eq!(rt; set_word(&mut call, 0, 1), 15);
-    assert_eq!(rt; set_word(&mut call, 4, 1), 15);
-    assert_eq!(rt; set_word(&mut call, 3, 2), 16);
-    assert_eq!(rt; set_word(&mut call, 3, 1), 0);
-    assert_eq!(rt; set_word(&mut call, 2, 2), 0);
+    assert_eq!(rt; set_word(&mut call, 0, 1), Err(15));
+    assert_eq!(rt; set_word(&mut call, 4, 1), Err(15));
+    assert_eq!(rt; set_word(&mut call, 3, 2), Err(16));
+    assert_eq!(rt; set_word(&mut call, 3, 1), Ok(()));
+    assert_eq!(rt; set_word(&mut call, 2, 2), Ok(()));
     Ok(())
 }
 

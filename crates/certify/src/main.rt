@@ -2,17 +2,16 @@
 #![tactic(auto)]
 
 mod certificate;
-mod counts;
+mod kind;
 mod patch;
 mod sheet;
 mod words;
 
-use anyhow::anyhow;
 use certificate::Certificate;
 use engine::budget::Budget;
+use kind::Kind;
 use number::fixed::Fixed;
 use number::float::Float;
-use number::kind::NumberKind;
 use patch::PATCHES;
 use std::env;
 use transform::fork;
@@ -21,38 +20,30 @@ use transform::fork;
 const BUDGETS: [u16; 2] = [3, 2];
 
 // The certificates of one number kind, at each budget.
-fn certify<K: NumberKind>(rt: &HostRuntime, kind: &str) -> anyhow::Result<()> {
+fn certify(rt: &HostRuntime, kind: Kind) -> anyhow::Result<()> {
     for steps in BUDGETS {
-        let Ok(budget) = Budget::new(steps) else {
-            return Err(anyhow!("a budget of 0 steps is refused with 14"));
-        };
         let certificate = Certificate {
             transform: fork(),
             name: "the built-in transform",
             kind,
-            budget,
+            budget: Budget::new(steps)?,
         };
-        certificate.print::<K>(rt, &PATCHES)?;
+        match kind {
+            Kind::Fixed => certificate.print::<Fixed>(rt, &PATCHES)?,
+            Kind::Float => certificate.print::<Float>(rt, &PATCHES)?,
+        }
     }
     Ok(())
-}
-
-fn certify_named(rt: &HostRuntime, kind: &str) -> anyhow::Result<()> {
-    match kind {
-        "fixed" => certify::<Fixed>(rt, kind),
-        "float" => certify::<Float>(rt, kind),
-        _ => Err(anyhow!("the kind should be fixed or float")),
-    }
 }
 
 fn run(rt: &HostRuntime) -> anyhow::Result<()> {
     let mut args = env::args(rt)?;
     let _ = args.next();
     match args.next() {
-        Some(kind) => certify_named(rt, kind.as_str()),
+        Some(kind) => certify(rt, kind.as_str().parse()?),
         None => {
-            certify_named(rt, "fixed")?;
-            certify_named(rt, "float")
+            certify(rt, Kind::Fixed)?;
+            certify(rt, Kind::Float)
         }
     }
 }

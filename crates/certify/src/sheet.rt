@@ -2,15 +2,11 @@
 use crate::patch::Patch;
 use call::armed::Armed;
 use call::mark::Mark;
-use call::refusal::RunRefusal;
 use engine::ending::Ending;
 use frame::planar::Planar;
 use frame::readable::Readable;
 use number::kind::NumberKind;
 use std::alloc::{AllocError, Global};
-
-/// A batch has room for so many pixels.
-pub const BATCH: usize = 64;
 
 /// A picture with one pixel for each patch, the picture that a call makes of it, and a mark for each pixel.
 #[derive(Drop)]
@@ -43,40 +39,41 @@ impl Sheet {
         })
     }
 
-    /// How many patches there are.
-    pub fn len(&self) -> usize {
-        self.marks.len()
-    }
-
-    /// Serves the patches from `first` on, at most `most` of them, as one batch; answers its rounds.
+    /// Serves all patches in batches of at most so many; answers the rounds of each.
     pub fn run<K: NumberKind>(
         &mut self,
+        heap: Global,
         armed: &mut Armed,
-        first: usize,
         most: usize,
-    ) -> Result<u32, RunRefusal> {
-        let count = self.marks.len().saturating_sub(first).min(most);
-        let marks = self.marks.as_mut_slice();
-        if first > marks.len() || count > marks.len() - first {
-            return Ok(0);
+    ) -> anyhow::Result<Vec<u32>> {
+        let mut rounds = Vec::new(heap);
+        let most = most.max(1);
+        for (batch, marks) in self.marks.chunks_mut(most).enumerate() {
+            let answer = armed.run::<K, Planar, Planar>(
+                &self.input,
+                &mut self.output,
+                batch.saturating_mul(most),
+                marks.len(),
+                marks,
+            )?;
+            rounds.push(answer.rounds)?;
         }
-        let answer = armed.run::<K, Planar, Planar>(
-            &self.input,
-            &mut self.output,
-            first,
-            count,
-            &mut marks[first..first + count],
-        )?;
-        Ok(answer.rounds)
+        Ok(rounds)
     }
 
-    /// The mark of a patch.
-    pub fn mark(&self, index: usize) -> Option<Mark> {
-        self.marks.get(index).copied()
+    /// The marks of the patches, in their order.
+    pub fn marks(&self) -> &[Mark] {
+        self.marks.as_slice()
     }
 
     /// The word that the call wrote on a channel for a patch.
     pub fn word(&self, index: usize, channel: usize) -> Option<u32> {
         self.output.get(index, channel)
+    }
+
+    /// Whether a patch has the same mark and the same word on channel 0 in another sheet.
+    pub fn agrees(&self, other: &Sheet, index: usize) -> bool {
+        self.marks.get(index) == other.marks.get(index)
+            && self.word(index, 0) == other.word(index, 0)
     }
 }

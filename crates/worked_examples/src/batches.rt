@@ -1,6 +1,7 @@
 //! Pixels that run together: docs/RULES.md, "Rounds" and "The built-in transform". The expected rounds are worked out by hand.
-use engine::batch::{Batch, run_together};
+use engine::batch::Batch;
 use engine::budget::Budget;
+use engine::settings::Settings;
 use number::fixed::Fixed;
 use std::test::Fail;
 use transform::fork;
@@ -10,33 +11,33 @@ fn words(first: u32) -> [u32; 8] {
     [first, 0, 0, 0, 0, 0, 0, 0]
 }
 
-// Ending, place, steps and the word of register 1, the output, of a pixel of the batch; zeros and a 9 where there is none.
-fn seen(batch: &Batch, index: usize) -> (u8, u16, u16, u32) {
-    match batch.pixel(index) {
-        Some(pixel) => match pixel.ending {
-            Some(ending) => (
-                ending.number(),
-                pixel.place,
-                pixel.steps,
-                pixel.registers[1],
-            ),
-            None => (9, pixel.place, pixel.steps, 0),
-        },
-        None => (9, 0, 0, 0),
-    }
+// Ending, place, steps and the word of register 1, the output, of a pixel of the batch, if there is such a pixel at its end.
+fn seen(batch: &Batch, index: usize) -> Option<(u8, u16, u16, u32)> {
+    let pixel = batch.pixel(index)?;
+    let ending = pixel.ending?;
+    Some((
+        ending.number(),
+        pixel.place,
+        pixel.steps,
+        pixel.registers[1],
+    ))
 }
 
 fn rounds(steps: u16, inputs: &[[u32; 8]], batch: &mut Batch) -> Result<u32, Fail> {
-    let budget = Budget::new(steps)?;
-    Ok(run_together::<Fixed>(&fork(), budget, &[], inputs, batch))
+    let settings = Settings {
+        transform: fork(),
+        budget: Budget::new(steps)?,
+        uniforms: &[],
+    };
+    Ok(settings.run_together::<Fixed>(inputs, batch))
 }
 
 #[test]
 fn two_pixels_part_and_take_four_rounds(rt: HostRuntime) -> Result<(), Fail> {
     let mut batch = Batch::new();
     assert_eq!(rt; rounds(3, &[words(32768), words(131072)], &mut batch)?, 4);
-    assert_eq!(rt; seen(&batch, 0), (0, 0, 3, 32768));
-    assert_eq!(rt; seen(&batch, 1), (0, 0, 3, 196608));
+    assert_eq!(rt; seen(&batch, 0), Some((0, 0, 3, 32768)));
+    assert_eq!(rt; seen(&batch, 1), Some((0, 0, 3, 196608)));
     Ok(())
 }
 
@@ -44,8 +45,8 @@ fn two_pixels_part_and_take_four_rounds(rt: HostRuntime) -> Result<(), Fail> {
 fn two_pixels_spend_a_budget_of_two_steps_in_two_rounds(rt: HostRuntime) -> Result<(), Fail> {
     let mut batch = Batch::new();
     assert_eq!(rt; rounds(2, &[words(32768), words(131072)], &mut batch)?, 2);
-    assert_eq!(rt; seen(&batch, 0), (4, 3, 2, 0));
-    assert_eq!(rt; seen(&batch, 1), (4, 4, 2, 0));
+    assert_eq!(rt; seen(&batch, 0), Some((4, 3, 2, 0)));
+    assert_eq!(rt; seen(&batch, 1), Some((4, 4, 2, 0)));
     Ok(())
 }
 
@@ -53,7 +54,7 @@ fn two_pixels_spend_a_budget_of_two_steps_in_two_rounds(rt: HostRuntime) -> Resu
 fn pixels_that_go_one_way_take_a_round_for_each_step(rt: HostRuntime) -> Result<(), Fail> {
     let mut batch = Batch::new();
     assert_eq!(rt; rounds(3, &[words(32768); 64], &mut batch)?, 3);
-    assert_eq!(rt; seen(&batch, 63), (0, 0, 3, 32768));
+    assert_eq!(rt; seen(&batch, 63), Some((0, 0, 3, 32768)));
     assert_eq!(rt; rounds(3, &[words(131072)], &mut batch)?, 3);
     Ok(())
 }

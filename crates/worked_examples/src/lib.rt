@@ -8,4 +8,6 @@ mod checks;
 #[cfg(test)]
 mod numbers;
 #[cfg(test)]
+mod parts;
+#[cfg(test)]
 mod runs;

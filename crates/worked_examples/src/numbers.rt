@@ -46,9 +46,9 @@ fn fixed_conversions(rt: HostRuntime) {
 
 #[test]
 fn fixed_comparisons_are_signed(rt: HostRuntime) {
-    assert_eq!(rt; Fixed::less(word(-1), 0), true);
-    assert_eq!(rt; Fixed::less(0, 0), false);
-    assert_eq!(rt; Fixed::equal(5, 5), true);
+    assert!(rt; Fixed::less(word(-1), 0));
+    assert!(rt; !Fixed::less(0, 0));
+    assert!(rt; Fixed::equal(5, 5));
     assert_eq!(rt; Fixed::NUMBER, 2);
 }
 
@@ -68,8 +68,8 @@ fn a_nan_is_admitted_as_one_word_and_equals_none(rt: HostRuntime) {
     assert_eq!(rt; Float::admit(0x7f80_0001), 0x7fc0_0000);
     assert_eq!(rt; Float::admit(0xffff_ffff), 0x7fc0_0000);
     assert_eq!(rt; Float::admit(0x8000_0000), 0x8000_0000);
-    assert_eq!(rt; Float::equal(0x7fc0_0000, 0x7fc0_0000), false);
-    assert_eq!(rt; Float::equal(0, 0x8000_0000), true);
+    assert!(rt; !Float::equal(0x7fc0_0000, 0x7fc0_0000));
+    assert!(rt; Float::equal(0, 0x8000_0000));
     assert_eq!(rt; Float::divide(0x3f80_0000, 0x8000_0000), Ok(0xff80_0000));
     assert_eq!(rt; Float::NUMBER, 1);
 }
@@ -83,7 +83,7 @@ fn whole_numbers_wrap(rt: HostRuntime) {
     assert_eq!(rt; whole::remainder(1, 0), Err(Stop::DivisionByZero));
     assert_eq!(rt; whole::add(0x7fff_ffff, 1), 0x8000_0000);
     assert_eq!(rt; whole::multiply(0x0001_0000, 0x0001_0000), 0);
-    assert_eq!(rt; whole::less(word(-1), 0), true);
+    assert!(rt; whole::less(word(-1), 0));
 }
 
 #[test]
