@@ -4,6 +4,7 @@ ghost use Rattle.number.specs.Fixed.{fixed, clipped};
 ghost use Rattle.std.proofs.Common.{rules};
 
 use crate::kind::{NumberKind, Stop};
+use crate::whole;
 use crate::whole::divisor;
 
 /// How many counts make one.
@@ -74,11 +75,11 @@ impl NumberKind for Fixed {
     }
 
     fn negate(a: u32) -> Result<u32, Stop> {
-        Ok(0i32.saturating_sub(a.cast_signed()).cast_unsigned())
+        Ok(a.cast_signed().saturating_neg().cast_unsigned())
     }
 
     fn less(a: u32, b: u32) -> bool {
-        a.cast_signed() < b.cast_signed()
+        whole::less(a, b)
     }
 
     fn equal(a: u32, b: u32) -> bool {

@@ -25,7 +25,7 @@ impl fmt::Display for Stop {
     ghost output = { λ stop. Some (stop_text stop) };
 
     fn fmt<W: fmt::Write>(&self, f: &mut fmt::Formatter<W>) -> fmt::Result {
-        f.write_str(match self {
+        f.pad(match self {
             Stop::DivisionByZero => "divided by zero",
             Stop::OutOfRange => "out of range",
         })

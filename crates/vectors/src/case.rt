@@ -78,6 +78,7 @@ impl FromStr for Case {
         let kind = part()?.parse::<Kind>()?;
         let operation = part()?.parse::<Operation>()?;
         let a = read_word(part()?)?;
+        // 0 beside a lone operand: every operation is handed two words.
         let b = if operation.takes_two() {
             read_word(part()?)?
         } else {

@@ -20,12 +20,11 @@ struct Counts {
 
 impl Counts {
     fn note(&mut self, agreed: bool) {
-        let count = if agreed {
-            &mut self.agreed
+        if agreed {
+            self.agreed = self.agreed.saturating_add(1);
         } else {
-            &mut self.differed
-        };
-        *count = count.saturating_add(1);
+            self.differed = self.differed.saturating_add(1);
+        }
     }
 }
 
