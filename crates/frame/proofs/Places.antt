@@ -1,7 +1,7 @@
 -- What a write into the memory of a frame makes of its image.
 use Rattle.std.proofs.Common.{◌≡◌, ℕ, ◌+◌, ◌*◌, ◌^◌, ◌<◌, ◌≤◌, List, ◌++◌, length, get_or, set, take, drop, Some, ◌⊎◌, sym, ap, ◌∙◌, inl, inr, ⊎_elim, arith, refl}
 use Rattle.std.specs.Int.{w32, to_be_bytes, from_be_bytes}
-use Rattle.std.proofs.lemmas.List.{get_or-set_other, get_or-drop, get_or-take, get_or_append_left, length-take-le, drop_at, drop-drop}
+use Rattle.std.proofs.lemmas.List.{get_or-set_other, get_or-drop, get_or-take, get_or_append_left, length-take-le, length-append, length-drop, take_all, drop_at, drop-drop}
 use Rattle.std.proofs.lemmas.Slice.{drop-put_mid}
 use Rattle.std.proofs.lemmas.Grind.{get_or-set_at}
 use Rattle.std.proofs.lemmas.Nat.{same_from_place, from_be_bytes-to_be_bytes_4}
@@ -22,8 +22,22 @@ planes_after_put z p c at w ws found within =
     (λ q d hq hd ne. get_or-set_other ws at (d * n + q) w 0
     (λ e. let same = same_from_place d q c p n hq place.0 (e ∙ place.2) in ne same.1 same.0))
 
+-- four bytes put in the place of four
+abbrev four_put : List ℕ → ℕ → ℕ → List ℕ
+four_put bs at w = take at bs ++ (to_be_bytes w32 w ++ drop (at + 4) bs)
+
+-- where the four lie in the bytes, this is what a put makes of them
+pub four_put_is : (bs : List ℕ) (at w : ℕ) → at + 4 ≤ length bs → four_put bs at w ≡ put_word bs at w
+four_put_is bs at w within =
+    let a = length-append (take at bs) (to_be_bytes w32 w ++ drop (at + 4) bs) in
+    let b = length-append (to_be_bytes w32 w) (drop (at + 4) bs) in
+    let c = length-take-le at bs (omega arith) in
+    let d = length-drop (at + 4) bs in
+    let e : length (to_be_bytes w32 w) ≡ 4 = refl in
+    sym (take_all (length bs) (four_put bs at w) (omega arith))
+
 -- the word written is the word read
-word_same : (bs : List ℕ) (at w : ℕ) → at + 4 ≤ length bs → w < 2 ^ 32 → be_word (put_word bs at w) at ≡ w
+word_same : (bs : List ℕ) (at w : ℕ) → at + 4 ≤ length bs → w < 2 ^ 32 → be_word (four_put bs at w) at ≡ w
 word_same bs at w within small =
     let front : length (take at bs) ≡ at = omega (arith, length-take-le at bs (omega arith)) in
     ap (from_be_bytes w32) (drop_at (take at bs) (to_be_bytes w32 w ++ drop (at + 4) bs) at front) ∙ from_be_bytes-to_be_bytes_4 w small
@@ -38,11 +52,11 @@ same_word xs ys same =
     omega arith
 
 -- no other word changes
-word_other : (bs : List ℕ) (at w j : ℕ) → at + 4 ≤ length bs → (j + 4 ≤ at) ⊎ (at + 4 ≤ j) → be_word (put_word bs at w) j ≡ be_word bs j
+word_other : (bs : List ℕ) (at w j : ℕ) → at + 4 ≤ length bs → (j + 4 ≤ at) ⊎ (at + 4 ≤ j) → be_word (four_put bs at w) j ≡ be_word bs j
 word_other bs at w j within apart = ⊎_elim
     (λ below. same_word _ _ (λ i h.
     let front : length (take at bs) ≡ at = omega (arith, length-take-le at bs (omega arith)) in
-    get_or-drop j (put_word bs at w) i 0
+    get_or-drop j (four_put bs at w) i 0
     ∙ get_or_append_left (take at bs) (to_be_bytes w32 w ++ drop (at + 4) bs) 0 (j + i) (omega arith)
     ∙ get_or-take at bs (j + i) 0 (omega arith)
     ∙ sym (get_or-drop j bs i 0)))
@@ -54,9 +68,10 @@ pub packed_after_put : (z : Size) (p c at w : ℕ) (bs : List ℕ) → Some at �
     → packed z (put_word bs at w) ≡ put_image (packed z bs) p c w
 packed_after_put z p c at w bs found within small =
     let k = z.channels in
+    ap (packed z) (sym (four_put_is bs at w within)) ∙
     let place = placed z.pixels k p c (4 * (p * k + c)) at found in
-    one_changed z.pixels k (packed_word bs k) (packed_word (put_word bs at w) k) p c w place.0 place.1
-    (ap (be_word (put_word bs at w)) (sym place.2) ∙ word_same bs at w within small)
+    one_changed z.pixels k (packed_word bs k) (packed_word (four_put bs at w) k) p c w place.0 place.1
+    (ap (be_word (four_put bs at w)) (sym place.2) ∙ word_same bs at w within small)
     (λ q d hq hd ne. word_other bs at w (4 * (q * k + d)) within
     (apart (q * k + d) (p * k + c) at place.2 (λ e. let same = same_from_place q d p c k hd place.1 e in ne same.0 same.1)))
   where

@@ -31,7 +31,7 @@ be_word bs i = from_be_bytes w32 (drop i bs)
 
 -- the bytes with the four from place i on made the word, most significant first
 abbrev pub put_word : List ℕ → ℕ → ℕ → List ℕ
-put_word bs i w = take i bs ++ (to_be_bytes w32 w ++ drop (i + 4) bs)
+put_word bs i w = take (length bs) (take i bs ++ (to_be_bytes w32 w ++ drop (i + 4) bs))
 
 -- the word of a pixel and a channel in bytes that lie pixel after pixel, four to a sample, k samples to a pixel
 abbrev pub packed_word : List ℕ → ℕ → ℕ → ℕ → ℕ

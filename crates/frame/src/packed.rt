@@ -17,6 +17,7 @@ pub struct Packed {
     ghost fits: { size ≡ fitting (vec_len bytes / 4) size.channels },
 }
 
+// That four bytes lie there is asked of the place: a type for it would have to borrow the bytes.
 /// The word in the four bytes from a place on.
 fn read_word(bytes: &[u8], at: usize) -> u32
     requires { at + 4 ≤ length bytes.now }
@@ -26,6 +27,7 @@ fn read_word(bytes: &[u8], at: usize) -> u32
 }
 
 /// Makes the four bytes from a place on the word.
+#[tactic(auto, using(crate::proofs::Places::four_put_is))]
 fn write_word(bytes: &mut Vec<u8>, at: usize, word: u32)
     requires { at + 4 ≤ vec_len bytes.old }
     ensures { bytes.new.items ≡ put_word bytes.old.items at word }

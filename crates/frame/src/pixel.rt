@@ -3,6 +3,7 @@ ghost use Rattle.frame.specs.Image.{inside};
 ghost use Rattle.frame.specs.Pixel.{all_inside, put_samples, write_image, Written};
 
 use crate::readable::Readable;
+use crate::size::Size;
 use crate::writable::{Outside, Writable};
 
 /// A word for one channel of a pixel.
@@ -15,7 +16,11 @@ pub struct Sample {
 fn is_inside<F: Readable>(frame: &F, pixel: usize, channel: usize) -> bool
     ensures { result ≡ inside (F.Readable.image frame.now) pixel channel }
 {
-    pixel < frame.pixels() && channel < frame.channels()
+    let size = Size {
+        pixels: frame.pixels(),
+        channels: frame.channels(),
+    };
+    size.has(pixel, channel)
 }
 
 fn all_inside<F: Readable>(frame: &F, pixel: usize, samples: &[Sample]) -> bool

@@ -1,6 +1,7 @@
 ghost use Rattle.std.specs.Prelude.{◌≡◌};
 ghost use Rattle.frame.specs.Image.{Image, sample};
 
+// A pixel and a channel, and no struct of both: a place is asked for once and kept by nobody.
 /// A picture that can be read. Its meaning is an image, and no question changes it.
 pub trait Readable {
     ghost image: { Self → Image };

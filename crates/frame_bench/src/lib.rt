@@ -98,6 +98,7 @@ fn relabelled(
     Ok(Relabelled::new(planar(heap, pixels, channels)?, &labels))
 }
 
+// Seven exports with one body, and 0 where there is no memory: to C each is a name of its own, and there is no Result.
 #[unsafe(no_mangle)]
 pub extern "C" fn planar_gets(
     heap: Global,
