@@ -94,6 +94,7 @@ impl RowFault {
     }
 }
 
+// Matches and no casts, as for the rows.
 impl RecordFault {
     pub(crate) fn cause(self) -> u8
         ensures { result ≡ record_cause self }
@@ -123,6 +124,7 @@ impl RecordFault {
     }
 }
 
+// Matches and no casts: each variant carries a fault.
 impl Fault {
     /// The part of the transform: 1 rows, 2 records, 3 table.
     pub fn layer(self) -> u8
@@ -135,7 +137,7 @@ impl Fault {
         }
     }
 
-    /// The number of the broken rule, from 1 to 13 (docs/RULES.md, Faults).
+    /// The number of the broken rule, from 1 to 13 (docs/RULES.md, Checking a transform).
     pub fn cause(self) -> u8
         ensures { result ≡ cause self }
     {

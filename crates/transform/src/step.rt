@@ -6,6 +6,7 @@ use crate::kind::{Fields, RecordKind};
 use crate::parts::{Record, Row, row_at};
 
 /// A record as a step: the registers that it names, where it leads, and whether they hold numbers.
+// Numbers of 0 and no Option for fields that a kind does not use, so that one fact, `Sound`, is read of every kind.
 #[derive(Clone, Copy)]
 pub struct Step {
     pub kind: RecordKind,
