@@ -22,13 +22,13 @@ run_number Served = 22
 -- what a refusal of set says
 abbrev pub set_text : SetRefusal → List ℕ
 set_text NoUniform = codes "the row does not exist or is not a uniform"
-set_text FlagWord = codes "the word of a flag is above 1"
+set_text FlagWord = codes "the uniform is a flag and the word is above 1"
 
 -- what a refusal of run says
 abbrev pub run_text : RunRefusal → List ℕ
-run_text Count = codes "the count is 0 or above 64"
+run_text Count = codes "count is 0 or above 64"
 run_text PixelCounts = codes "the pixel counts of the two frames differ"
 run_text PastEnd = codes "the batch passes the last pixel"
-run_text Channel = codes "a row's channel is not in its frame"
-run_text Marks = codes "the list of marks is not as long as the batch"
-run_text Served = codes "the call would serve more than 16,777,216 pixels"
+run_text Channel = codes "the channel of an in row is not in the in frame, or that of an out row not in the out frame"
+run_text Marks = codes "the list of marks does not have exactly count marks"
+run_text Served = codes "the call would pass 16,777,216 served pixels, repeats counted"

@@ -4,16 +4,13 @@ ghost use Rattle.std.specs.List.{range_with_len};
 ghost use Rattle.call.specs.Frames.{input_words};
 
 use frame::readable::Readable;
+use std::array;
 
 // The words of a pixel, 0 on channels that the frame does not have.
 fn input_words<I: Readable>(input: &I, pixel: usize) -> [u32; 8]
     ensures { result ≡ input_words (I.Readable.image input.now) pixel }
 {
-    let mut words = [0; 8];
-    for (channel, word) in words.iter_mut().enumerate() {
-        *word = input.get(pixel, channel).unwrap_or(0);
-    }
-    words
+    array::from_fn(|channel| input.get(pixel, channel).unwrap_or(0))
 }
 
 // Fills each entry with the words of one pixel, from `first` on.

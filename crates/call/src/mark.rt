@@ -27,6 +27,7 @@ impl Mark {
         ensures { result ≡ mark_of end.now }
     {
         Mark {
+            // The end of a run has an ending; a pixel on its way would be told as spent.
             ending: end.ending.unwrap_or(Ending::Spent),
             place: end.place,
             steps: end.steps,

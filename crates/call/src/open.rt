@@ -19,6 +19,7 @@ pub struct Open<'a> {
 fn row_words(transform: &Accepted) -> [u32; 64]
     ensures { result ≡ defaults transform.now.rows.now }
 {
+    // No from_fn: of 64 calls the check keeps no tie to the transform that the closure holds.
     let mut words = [0; 64];
     for (i, word) in words.iter_mut().enumerate() {
         *word = transform.row_at(i as u16).word;

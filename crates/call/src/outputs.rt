@@ -23,6 +23,7 @@ impl Setup<'_> {
     fn write_rows<O: Writable>(&self, registers: &[u32; 64], output: &mut O, pixel: usize)
         ensures { O.Readable.image output.new ≡ rows_put self.now.transform.rows.now registers.now pixel (length self.now.transform.rows.now) (O.Readable.image output.old) }
     {
+        // By index: at the end of a zip the check does not find that all rows were taken.
         for (i, row) in self.transform.rows().iter().enumerate() {
             write_row::<O>(*row, registers[i], output, pixel);
         }
@@ -53,6 +54,7 @@ pub(crate) fn fill_marks(ends: &[Pixel], marks: &mut [Mark])
     requires { length marks.old ≤ length ends.now }
     ensures { marks.new ≡ map mark_of (take (length marks.old) ends.now) }
 {
+    // By index: of what is written through a zip a proof learns nothing.
     for (i, mark) in marks.iter_mut().enumerate() {
         *mark = Mark::of(&ends[i]);
     }

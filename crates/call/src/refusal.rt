@@ -29,7 +29,7 @@ impl fmt::Display for SetRefusal {
     fn fmt<W: fmt::Write>(&self, f: &mut fmt::Formatter<W>) -> fmt::Result {
         f.write_str(match self {
             SetRefusal::NoUniform => "the row does not exist or is not a uniform",
-            SetRefusal::FlagWord => "the word of a flag is above 1",
+            SetRefusal::FlagWord => "the uniform is a flag and the word is above 1",
         })
     }
 }
@@ -67,12 +67,13 @@ impl fmt::Display for RunRefusal {
 
     fn fmt<W: fmt::Write>(&self, f: &mut fmt::Formatter<W>) -> fmt::Result {
         f.write_str(match self {
-            RunRefusal::Count => "the count is 0 or above 64",
+            RunRefusal::Count => "count is 0 or above 64",
             RunRefusal::PixelCounts => "the pixel counts of the two frames differ",
             RunRefusal::PastEnd => "the batch passes the last pixel",
-            RunRefusal::Channel => "a row's channel is not in its frame",
-            RunRefusal::Marks => "the list of marks is not as long as the batch",
-            RunRefusal::Served => "the call would serve more than 16,777,216 pixels",
+            RunRefusal::Channel =>
+                "the channel of an in row is not in the in frame, or that of an out row not in the out frame",
+            RunRefusal::Marks => "the list of marks does not have exactly count marks",
+            RunRefusal::Served => "the call would pass 16,777,216 served pixels, repeats counted",
         })
     }
 }

@@ -10,6 +10,7 @@ use transform::{Accepted, Row};
 
 // What is asked of a run: its batch, and how many marks are given.
 // A start and a count, and no range: the end of a batch that passes the last pixel may be no usize.
+// That it is one is asked of each list that is gone over: a span with the fact in its type would owe that the list is as long.
 #[derive(Clone, Copy)]
 pub(crate) struct Request {
     pub first: usize,

@@ -14,6 +14,7 @@ use frame::writable::Writable;
 use number::kind::NumberKind;
 
 impl Setup<'_> {
+    // A start and a count, as the definitions of a batch have them.
     // Runs pixels of the frame, from `first` on, in the first places of a batch; answers their rounds.
     fn run_pixels<K: NumberKind, I: Readable>(
         &self,

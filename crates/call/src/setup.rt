@@ -9,6 +9,7 @@ use engine::settings::Settings;
 use transform::Accepted;
 
 // The transform, the budget, and for each row a word: that of a uniform may be set.
+// Not the engine's settings: these borrow their words, and a call owns its own, with no heap.
 #[derive(Clone, Copy)]
 pub(crate) struct Setup<'a> {
     pub transform: Accepted<'a>,

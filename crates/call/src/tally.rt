@@ -8,8 +8,10 @@ use crate::mark::Mark;
 pub const MOST_SERVED: usize = 16_777_216;
 
 /// How many marks had each of the endings 0 to 4, how many pixels were served, and the sum of the rounds.
+// Its bounds are asked in clauses and not kept in the type: the fields are public, and whoever made one would owe them.
 #[derive(Clone, Copy)]
 pub struct Tally {
+    // By the number of an ending, as closing a call tells them.
     pub endings: [u32; 5],
     pub served: u32,
     pub rounds: u64,

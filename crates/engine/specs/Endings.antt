@@ -24,4 +24,4 @@ zero_budget = 14
 
 -- what that refusal says
 abbrev pub zero_budget_text : List ℕ
-zero_budget_text = codes "a budget of 0 steps is refused with 14"
+zero_budget_text = codes "a budget of 0 steps"

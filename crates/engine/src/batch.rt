@@ -113,6 +113,7 @@ impl Settings<'_> {
         requires { length pixels.old ≤ length inputs.now }
         ensures { pixels.new ≡ map (start_of (setting K.NumberKind.meaning self.now)) (take (length pixels.old) inputs.now) }
     {
+        // By index: of what is written through a zip a proof learns nothing.
         for (i, pixel) in pixels.iter_mut().enumerate() {
             *pixel = Pixel::start::<K>(self, &inputs[i]);
         }

@@ -10,6 +10,7 @@ use std::fmt;
 pub struct Budget {
     steps: u16,
     ghost some: { 0 < steps },
+    // Behind a reference a proof knows no bound of a number that the code has not read.
     ghost few: { steps < 2 ^ 16 },
 }
 
@@ -30,7 +31,7 @@ impl fmt::Display for ZeroBudget {
     ghost output = { λ _. Some zero_budget_text };
 
     fn fmt<W: fmt::Write>(&self, f: &mut fmt::Formatter<W>) -> fmt::Result {
-        f.write_str("a budget of 0 steps is refused with 14")
+        f.write_str("a budget of 0 steps")
     }
 }
 

@@ -1,9 +1,10 @@
 //! What one step does, of each of the fifteen kinds of record.
-ghost use Rattle.std.specs.Prelude.{◌≡◌, if◌then◌else◌};
+ghost use Rattle.std.specs.Prelude.{◌≡◌};
 ghost use Rattle.transform.specs.Parts.{word_at};
 ghost use Rattle.engine.specs.Effects.{entry_word, effect_of};
 
 use crate::ending::Ending;
+use crate::start::admitted;
 use number::kind::NumberKind;
 use number::whole;
 use transform::{Accepted, RecordKind, Step};
@@ -27,7 +28,7 @@ pub(crate) fn effect_of<K: NumberKind>(
     ensures { result ≡ effect_of K.NumberKind.meaning transform.now.table.now step.now a b step.now.kind }
 {
     let word = match (step.kind, step.a_number) {
-        (RecordKind::Literal, _) => literal::<K>(step),
+        (RecordKind::Literal, _) => admitted::<K>(step.to_number, step.word),
         (RecordKind::Copy, _) => a,
         (RecordKind::Add, true) => K::add(a, b)?,
         (RecordKind::Add, false) => whole::add(a, b),
@@ -53,17 +54,6 @@ pub(crate) fn effect_of<K: NumberKind>(
         }
     };
     Ok(Effect::Put(word))
-}
-
-// The literal word, admitted where it goes to a number.
-fn literal<K: NumberKind>(step: &Step) -> u32
-    ensures { result ≡ (if step.now.to_number then K.NumberKind.meaning.admit step.now.word else step.now.word) }
-{
-    if step.to_number {
-        K::admit(step.word)
-    } else {
-        step.word
-    }
 }
 
 // The table word at the index, admitted. A negative index is, as a word, above every index.

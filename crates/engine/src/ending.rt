@@ -19,15 +19,6 @@ pub enum Ending {
     Spent,
 }
 
-/// Every ending, by its number.
-pub const ENDINGS: [Ending; 5] = [
-    Ending::Done,
-    Ending::Stopped(Stop::DivisionByZero),
-    Ending::Stopped(Stop::OutOfRange),
-    Ending::OutsideTable,
-    Ending::Spent,
-];
-
 impl Ending {
     /// The number by which an ending is reported, 0 to 4.
     pub fn number(self) -> u8
@@ -55,12 +46,11 @@ impl fmt::Display for Ending {
     ghost output = { λ ending. Some (ending_text ending) };
 
     fn fmt<W: fmt::Write>(&self, f: &mut fmt::Formatter<W>) -> fmt::Result {
-        f.pad(match self {
-            Ending::Done => "done",
-            Ending::Stopped(Stop::DivisionByZero) => "divided by zero",
-            Ending::Stopped(Stop::OutOfRange) => "out of range",
-            Ending::OutsideTable => "outside the table",
-            Ending::Spent => "spent",
-        })
+        match self {
+            Ending::Done => f.pad("done"),
+            Ending::Stopped(stop) => stop.fmt(f),
+            Ending::OutsideTable => f.pad("outside the table"),
+            Ending::Spent => f.pad("spent"),
+        }
     }
 }

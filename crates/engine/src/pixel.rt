@@ -16,6 +16,7 @@ use transform::Step;
 /// A pixel on its way, or at its end once it has an ending.
 #[derive(Clone, Copy)]
 pub struct Pixel {
+    // As many as rows may be, as the rules have a pixel hold its own registers, with no heap.
     pub registers: [u32; 64],
     pub place: u16,
     pub steps: u16,

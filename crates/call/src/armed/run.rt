@@ -15,6 +15,7 @@ impl Armed<'_> {
     /// Serves a batch: `count` pixels of the frames, from `first` on, each as if it ran by itself.
     /// The marks are filled in pixel order, and the out words of the pixels that are done are written.
     /// A refused run alters nothing.
+    // A start and a count, as the rules have a run asked for.
     pub fn run<K: NumberKind, I: Readable, O: Writable>(
         &mut self,
         input: &I,
