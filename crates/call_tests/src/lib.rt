@@ -26,6 +26,7 @@ fn arm_with<'a>(mut call: Open<'a>, row: u16, word: u32) -> Armed<'a> {
 }
 
 /// A run of an armed call on a field. On an open call there is none: the same tool shows it.
+// A start, as a run takes it.
 fn run_field(
     call: &mut Armed,
     input: &Field,

@@ -11,6 +11,7 @@ use std::test::Fail;
 use transform::{Accepted, Record, Row, check, fork};
 
 // An input, an output, a number that a call may set and a flag that it may set.
+// Written out: the value of a constant may hold no call.
 const ROWS: [Row; 4] = [
     Row {
         holds: 3,

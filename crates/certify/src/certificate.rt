@@ -8,10 +8,19 @@ use call::mark::Mark;
 use call::open::Open;
 use engine::batch::MOST_PIXELS;
 use engine::budget::Budget;
-use engine::ending::{ENDINGS, Ending};
-use number::kind::NumberKind;
+use engine::ending::Ending;
+use number::kind::{NumberKind, Stop};
 use std::io;
 use transform::{Accepted, Record};
+
+/// The endings in the order of their numbers, in which they are counted.
+const ENDINGS: [Ending; 5] = [
+    Ending::Done,
+    Ending::Stopped(Stop::DivisionByZero),
+    Ending::Stopped(Stop::OutOfRange),
+    Ending::OutsideTable,
+    Ending::Spent,
+];
 
 /// What the certificate is about.
 #[derive(Clone, Copy)]

@@ -9,6 +9,7 @@ use number::kind::NumberKind;
 use std::alloc::{AllocError, Global};
 
 /// A picture with one pixel for each patch, the picture that a call makes of it, and a mark for each pixel.
+// Two frames and a list of marks, as a call is given them.
 #[derive(Drop)]
 pub struct Sheet {
     input: Planar,
