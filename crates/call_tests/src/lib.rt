@@ -10,6 +10,8 @@ use frame::planar::Planar;
 use number::fixed::Fixed;
 
 #[cfg(test)]
+mod refusals;
+#[cfg(test)]
 mod runs;
 #[cfg(test)]
 mod uniforms;
