@@ -1,7 +1,7 @@
 -- What a write into the memory of a frame makes of its image.
 use Rattle.std.proofs.Common.{◌≡◌, ℕ, ◌+◌, ◌*◌, ◌^◌, ◌<◌, ◌≤◌, List, ◌++◌, length, get_or, set, take, drop, Some, ◌⊎◌, sym, ap, ◌∙◌, inl, inr, ⊎_elim, arith, refl}
 use Rattle.std.specs.Int.{w32, to_be_bytes, from_be_bytes}
-use Rattle.std.proofs.lemmas.List.{get_or-set_other, get_or-drop, get_or-take, get_or_append_left, length-take-le, length-append, length-drop, take_all, drop_at, drop-drop}
+use Rattle.std.proofs.lemmas.List.{get_or-set_other, get_or-drop, get_or-take, get_or_append_left, get_or_past, length-take, length-take-le, length-append, length-drop, take_all, drop_at, drop-drop}
 use Rattle.std.proofs.lemmas.Slice.{drop-put_mid}
 use Rattle.std.proofs.lemmas.Grind.{get_or-set_at}
 use Rattle.std.proofs.lemmas.Nat.{same_from_place, from_be_bytes-to_be_bytes_4}
@@ -36,9 +36,9 @@ four_put_is bs at w within =
     let e : length (to_be_bytes w32 w) ≡ 4 = refl in
     sym (take_all (length bs) (four_put bs at w) (omega arith))
 
--- the word written is the word read
-word_same : (bs : List ℕ) (at w : ℕ) → at + 4 ≤ length bs → w < 2 ^ 32 → be_word (four_put bs at w) at ≡ w
-word_same bs at w within small =
+-- the four bytes put are the word read
+four_same : (bs : List ℕ) (at w : ℕ) → at + 4 ≤ length bs → w < 2 ^ 32 → be_word (four_put bs at w) at ≡ w
+four_same bs at w within small =
     let front : length (take at bs) ≡ at = omega (arith, length-take-le at bs (omega arith)) in
     ap (from_be_bytes w32) (drop_at (take at bs) (to_be_bytes w32 w ++ drop (at + 4) bs) at front) ∙ from_be_bytes-to_be_bytes_4 w small
 
@@ -51,9 +51,9 @@ same_word xs ys same =
     let e3 = same 3 (omega arith) in
     omega arith
 
--- no other word changes
-word_other : (bs : List ℕ) (at w j : ℕ) → at + 4 ≤ length bs → (j + 4 ≤ at) ⊎ (at + 4 ≤ j) → be_word (four_put bs at w) j ≡ be_word bs j
-word_other bs at w j within apart = ⊎_elim
+-- no other four bytes change
+four_other : (bs : List ℕ) (at w j : ℕ) → at + 4 ≤ length bs → (j + 4 ≤ at) ⊎ (at + 4 ≤ j) → be_word (four_put bs at w) j ≡ be_word bs j
+four_other bs at w j within apart = ⊎_elim
     (λ below. same_word _ _ (λ i h.
     let front : length (take at bs) ≡ at = omega (arith, length-take-le at bs (omega arith)) in
     get_or-drop j (four_put bs at w) i 0
@@ -63,6 +63,36 @@ word_other bs at w j within apart = ⊎_elim
     (λ above. ap (from_be_bytes w32) (ap (λ (rest : List ℕ). drop j (take at bs ++ (to_be_bytes w32 w ++ rest))) (sym (drop-drop 4 at bs)) ∙ drop-put_mid at 4 bs (to_be_bytes w32 w) j above (omega arith) refl))
     apart
 
+-- the word written is the word read
+pub word_same : (bs : List ℕ) (at w : ℕ) → at + 4 ≤ length bs → w < 2 ^ 32 → be_word (put_word bs at w) at ≡ w
+word_same bs at w within small = ap (λ (ys : List ℕ). be_word ys at) (sym (four_put_is bs at w within)) ∙ four_same bs at w within small
+
+-- past the end, the part of the bytes that is kept has the words that they have
+cut_other : (bs rest : List ℕ) (at j : ℕ) → length bs < at + 4 → (j + 4 ≤ at) ⊎ (at + 4 ≤ j) → be_word (take (length bs) (take at bs ++ rest)) j ≡ be_word bs j
+cut_other bs rest at j past apart = same_word _ _ (λ i h. get_or-drop j (take (length bs) (take at bs ++ rest)) i 0 ∙ cut (j + i) (⊎_elim (λ l. inl (omega arith)) (λ g. inr (omega arith)) apart) ∙ sym (get_or-drop j bs i 0))
+  where
+    all : List ℕ
+    all = take at bs ++ rest
+
+    beyond : (k : ℕ) → length bs ≤ k → get_or (take (length bs) all) k 0 ≡ get_or bs k 0
+    beyond k le = get_or_past (take (length bs) all) k 0 (omega (arith, length-take (length bs) all)) ∙ sym (get_or_past bs k 0 le)
+
+    front : (k : ℕ) → k < at → k < length bs → get_or (take (length bs) all) k 0 ≡ get_or bs k 0
+    front k lt small =
+        get_or-take (length bs) all k 0 small
+        ∙ get_or_append_left (take at bs) rest 0 k (omega (arith, length-take at bs))
+        ∙ get_or-take at bs k 0 lt
+
+    cut : (k : ℕ) → (k < at) ⊎ (length bs ≤ k) → get_or (take (length bs) all) k 0 ≡ get_or bs k 0
+    cut k case = ⊎_elim (λ lt. ⊎_elim (front k lt) (beyond k) (cases_lt k (length bs))) (beyond k) case
+
+-- no other word changes
+pub word_other : (bs : List ℕ) (at w j : ℕ) → (j + 4 ≤ at) ⊎ (at + 4 ≤ j) → be_word (put_word bs at w) j ≡ be_word bs j
+word_other bs at w j apart = ⊎_elim
+    (λ past. cut_other bs (to_be_bytes w32 w ++ drop (at + 4) bs) at j past apart)
+    (λ within. ap (λ (ys : List ℕ). be_word ys j) (sym (four_put_is bs at w within)) ∙ four_other bs at w j within apart)
+    (cases_lt (length bs) (at + 4))
+
 -- four bytes written at the place of a sample are a put
 pub packed_after_put : (z : Size) (p c at w : ℕ) (bs : List ℕ) → Some at ≡ packed_place z p c → at + 4 ≤ length bs → w < 2 ^ 32
     → packed z (put_word bs at w) ≡ put_image (packed z bs) p c w
@@ -71,8 +101,8 @@ packed_after_put z p c at w bs found within small =
     ap (packed z) (sym (four_put_is bs at w within)) ∙
     let place = placed z.pixels k p c (4 * (p * k + c)) at found in
     one_changed z.pixels k (packed_word bs k) (packed_word (four_put bs at w) k) p c w place.0 place.1
-    (ap (be_word (four_put bs at w)) (sym place.2) ∙ word_same bs at w within small)
-    (λ q d hq hd ne. word_other bs at w (4 * (q * k + d)) within
+    (ap (be_word (four_put bs at w)) (sym place.2) ∙ four_same bs at w within small)
+    (λ q d hq hd ne. four_other bs at w (4 * (q * k + d)) within
     (apart (q * k + d) (p * k + c) at place.2 (λ e. let same = same_from_place q d p c k hd place.1 e in ne same.0 same.1)))
   where
     apart : (j i at : ℕ) → at ≡ 4 * i → (j ≡ i → ⊥) → (4 * j + 4 ≤ at) ⊎ (at + 4 ≤ 4 * j)

@@ -1,4 +1,4 @@
-ghost use Rattle.std.specs.Prelude.{◌≡◌, true, is_ok};
+ghost use Rattle.std.specs.Prelude.{◌≡◌, ◌≤◌, true, is_ok, length};
 ghost use Rattle.frame.specs.Image.{inside, put_image};
 ghost use Rattle.frame.specs.Relabel.{all_below, distinct, relabelled_image, put_below};
 
@@ -12,6 +12,7 @@ use crate::writable::{Outside, Writable};
 pub struct Relabelled<F: Readable> {
     below: F,
     labels: Labels,
+    ghost few: { length labels ≤ 8 },
     ghost exist: { all_below (F.Readable.image below).channels labels ≡ true },
     ghost apart: { distinct labels ≡ true },
 }

@@ -1,4 +1,4 @@
-use crate::{get_first, put_first};
+use crate::{channels_of, get_first, put_first};
 use frame::field::Field;
 use frame::planar::Planar;
 use frame::readable::Readable;
@@ -61,6 +61,7 @@ fn relabelled_below(rt: HostRuntime) -> Result<(), Fail> {
     let below = Planar::new([1, 2, 3, 4, 5, 6].to_vec(rt.alloc())?, 3);
     let mut frame = Relabelled::new(Relabelled::new(below, &[2, 0]), &[1]);
     assert_eq!(rt; frame.channels(), 1);
+    assert_eq!(rt; channels_of(&frame), 1);
     assert_eq!(rt; frame.get(1, 0), Some(2));
     assert!(rt; frame.put(1, 0, 9).is_ok());
     assert!(rt; frame.put(1, 1, 9).is_err());

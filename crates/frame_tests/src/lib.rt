@@ -1,6 +1,8 @@
 //! Tests of the frames: sizes at each limit, the corners, and what a put leaves alone.
 #![tactic(auto)]
 
+ghost use Rattle.std.specs.Prelude.{◌≤◌};
+
 use frame::field::Field;
 use frame::planar::Planar;
 use frame::readable::Readable;
@@ -25,4 +27,11 @@ fn get_first(frame: &Relabelled<Field>) -> Option<u32> {
 /// Over a field there is no such call: tools/put_over_field shows that one is refused.
 fn put_first(frame: &mut Relabelled<Planar>, word: u32) -> bool {
     frame.put(0, 0, word).is_ok()
+}
+
+/// How many channels a relabelled frame has: over any frame at most eight, as its type tells.
+fn channels_of<F: Readable>(frame: &Relabelled<F>) -> usize
+    ensures { result ≤ 8 }
+{
+    frame.channels()
 }
