@@ -76,3 +76,15 @@ unfolding is_nan
 whole_nan nan e = refl
 whole_nan (inf s) e = cc
 whole_nan (fin s m e) h = cc
+
+-- in range, the bits of 64 cut to 32 hold the whole part
+pub whole_in : (x : Float) (z n : ℤ) → false ≡ is_nan x → z ≡ to_signed 63 x → FitsSigned w32 (to_z w64 (of_z w64 z)) → n ≡ to_z w64 (of_z w64 z)
+    → ◌≡◌ {A = Answer} (Ok (to_z w32 (of_z w32 n))) (whole_part x)
+whole_in x z n k e f g =
+    let back = back64 x z e in
+    let fits : FitsSigned w32 (to_signed 63 x) = rw back at f in
+    ap (λ (y : ℤ). Ok (to_z w32 (of_z w32 y))) (g ∙ back) ∙ ap Ok (to_z-of_z w32 (to_signed 63 x) fits) ∙ sym (cut_in x k fits)
+
+-- out of range there is none, of a NaN too
+pub whole_out : (x : Float) (z : ℤ) → z ≡ to_signed 63 x → (FitsSigned w32 (to_z w64 (of_z w64 z)) → ⊥) → ◌≡◌ {A = Answer} (Err OutOfRange) (whole_part x)
+whole_out x z e f = sym (cut_out x (λ g. f (rw (back64 x z e) g)))
