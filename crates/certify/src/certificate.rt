@@ -39,11 +39,27 @@ impl Certificate<'_> {
         self.print_settings(rt)?;
         let mut alone = Sheet::new(rt.alloc(), patches)?;
         let mut together = Sheet::new(rt.alloc(), patches)?;
-        let _ = alone.run::<K>(rt.alloc(), &mut self.call(), 1)?;
+        let mut call = self.call();
+        for patch in 0..patches.len() {
+            let _ = alone.run::<K>(&mut call, patch, 1)?;
+        }
         self.print_patches(rt, patches, &alone)?;
-        let rounds = together.run::<K>(rt.alloc(), &mut self.call(), MOST_PIXELS)?;
-        print_batches(rt, rounds.as_slice())?;
+        self.run_together::<K>(rt, &mut together)?;
         print_company(rt, &alone, &together)?;
+        Ok(())
+    }
+
+    // Serves the picture in batches, and prints the rounds of each by its first patch.
+    fn run_together<K: NumberKind>(
+        &self,
+        rt: &impl Print,
+        sheet: &mut Sheet,
+    ) -> anyhow::Result<()> {
+        let mut call = self.call();
+        for first in (0..sheet.marks().len()).step_by(MOST_PIXELS) {
+            let rounds = sheet.run::<K>(&mut call, first, MOST_PIXELS)?;
+            println!(rt; "company    batch from patch {first}: {rounds} rounds")?;
+        }
         Ok(())
     }
 
@@ -130,15 +146,6 @@ fn print_record(rt: &impl Print, place: usize, record: Record) -> io::Result<()>
     let (kind, to, a, b) = (record.kind, record.to, record.a, record.b);
     let (word, next) = (Word(record.word), record.next);
     println!(rt; "{place:>9}  {kind:>4} {to:>2} {a:>2} {b:>2}  {word} {next:>4}")
-}
-
-// The rounds of each batch of the picture, by the batch's first patch.
-fn print_batches(rt: &impl Print, rounds: &[u32]) -> io::Result<()> {
-    for (batch, count) in rounds.iter().enumerate() {
-        let first = batch.saturating_mul(MOST_PIXELS);
-        println!(rt; "company    batch from patch {first}: {count} rounds")?;
-    }
-    Ok(())
 }
 
 // How many patches have in company another mark or another out word than alone.

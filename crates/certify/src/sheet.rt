@@ -2,6 +2,7 @@
 use crate::patch::Patch;
 use call::armed::Armed;
 use call::mark::Mark;
+use call::refusal::RunRefusal;
 use engine::ending::Ending;
 use frame::planar::Planar;
 use frame::readable::Readable;
@@ -40,26 +41,28 @@ impl Sheet {
         })
     }
 
-    /// Serves all patches in batches of at most so many; answers the rounds of each.
+    /// Serves the patches from `first` on, at most so many, as one batch; answers its rounds.
     pub fn run<K: NumberKind>(
         &mut self,
-        heap: Global,
         armed: &mut Armed,
+        first: usize,
         most: usize,
-    ) -> anyhow::Result<Vec<u32>> {
-        let mut rounds = Vec::new(heap);
-        let most = most.max(1);
-        for (batch, marks) in self.marks.chunks_mut(most).enumerate() {
-            let answer = armed.run::<K, Planar, Planar>(
-                &self.input,
-                &mut self.output,
-                batch.saturating_mul(most),
-                marks.len(),
-                marks,
-            )?;
-            rounds.push(answer.rounds)?;
-        }
-        Ok(rounds)
+    ) -> Result<u32, RunRefusal> {
+        let rest = self
+            .marks
+            .as_mut_slice()
+            .get_mut(first..)
+            .unwrap_or_default();
+        let count = rest.len().min(most);
+        let marks = &mut rest[..count];
+        let answer = armed.run::<K, Planar, Planar>(
+            &self.input,
+            &mut self.output,
+            first,
+            count,
+            marks,
+        )?;
+        Ok(answer.rounds)
     }
 
     /// The marks of the patches, in their order.
