@@ -12,6 +12,18 @@ use std::alloc::{AllocError, Global};
 /// The word that every sample holds at the start.
 const START: u32 = 7;
 
+/// What `read` answers for each number below the count, added up.
+// Pixel by pixel or channel by channel, each with a sum of its own: one sum over all samples would have each wait for the one before.
+fn added<F: FnMut(usize) -> u32>(count: usize, mut read: F) -> u32
+    requires { F.IsAlwaysCallable read }
+{
+    let mut sum = 0u32;
+    for i in 0..count {
+        sum = sum.wrapping_add(read(i));
+    }
+    sum
+}
+
 /// Calls `visit` on every pixel and channel, channel after channel or pixel after pixel.
 // A bool and not an enum: the C interface of the exports gives the order so.
 fn each_sample<F: FnMut(usize, usize)>(
@@ -37,18 +49,33 @@ fn each_sample<F: FnMut(usize, usize)>(
     }
 }
 
+fn read_by_pixel<F: Readable>(frame: &F) -> u32 {
+    added(frame.pixels(), |pixel| {
+        added(
+            frame.channels(),
+            |channel| frame.get(pixel, channel).unwrap_or(0),
+        )
+    })
+}
+
+fn read_by_channel<F: Readable>(frame: &F) -> u32 {
+    added(frame.channels(), |channel| {
+        added(
+            frame.pixels(),
+            |pixel| frame.get(pixel, channel).unwrap_or(0),
+        )
+    })
+}
+
 /// Reads every sample so many times, and adds the words up.
 fn read_rounds<F: Readable>(frame: &F, by_channel: bool, rounds: usize) -> u32 {
     let mut sum = 0u32;
     for _ in 0..rounds {
-        each_sample(
-            frame.pixels(),
-            frame.channels(),
-            by_channel,
-            |pixel, channel| {
-                sum = sum.wrapping_add(frame.get(pixel, channel).unwrap_or(0));
-            },
-        );
+        sum = sum.wrapping_add(if by_channel {
+            read_by_channel(frame)
+        } else {
+            read_by_pixel(frame)
+        });
     }
     sum
 }
@@ -67,7 +94,7 @@ fn write_rounds<F: Writable>(frame: &mut F, by_channel: bool, rounds: usize) -> 
             },
         );
     }
-    read_rounds(frame, false, 1)
+    read_by_pixel(frame)
 }
 
 fn planar(heap: Global, pixels: usize, channels: usize) -> Result<Planar, AllocError> {
