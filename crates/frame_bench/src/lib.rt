@@ -49,13 +49,19 @@ fn each_sample<F: FnMut(usize, usize)>(
     }
 }
 
+// A loop and no closure: through one, a relabelled frame of one channel takes nearly twice the time.
+fn read_pixel<F: Readable>(frame: &F, pixel: usize) -> u32 {
+    let mut sum = 0u32;
+    for channel in 0..frame.channels() {
+        if let Some(word) = frame.get(pixel, channel) {
+            sum = sum.wrapping_add(word);
+        }
+    }
+    sum
+}
+
 fn read_by_pixel<F: Readable>(frame: &F) -> u32 {
-    added(frame.pixels(), |pixel| {
-        added(
-            frame.channels(),
-            |channel| frame.get(pixel, channel).unwrap_or(0),
-        )
-    })
+    added(frame.pixels(), |pixel| read_pixel(frame, pixel))
 }
 
 fn read_by_channel<F: Readable>(frame: &F) -> u32 {
