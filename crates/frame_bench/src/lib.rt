@@ -127,7 +127,11 @@ fn relabelled(
     pixels: usize,
     channels: usize,
 ) -> Result<Relabelled<Planar>, AllocError> {
-    let labels: Vec<usize> = (0..channels).rev().collect(heap)?;
+    // One by one and not collected: for want of memory it gives up at the first request that fails.
+    let mut labels = Vec::new(heap);
+    for channel in (0..channels).rev() {
+        labels.push(channel)?;
+    }
     Ok(Relabelled::new(planar(heap, pixels, channels)?, &labels))
 }
 
